@@ -1,0 +1,28 @@
+-- The limits of document 01, each named once.
+use Prim.Native.Nat.{ℕ}
+
+-- hundredths of a percent
+abbrev pub mostLoss : ℕ
+mostLoss = 5_000
+
+-- kW
+abbrev pub leastContract : ℕ
+leastContract = 1_000
+
+abbrev pub mostContract : ℕ
+mostContract = 10_000_000
+
+abbrev pub mostPoints : ℕ
+mostPoints = 10_000
+
+-- Wh, of one slot result on either side of zero
+abbrev pub mostResult : ℕ
+mostResult = 4_000_000_000
+
+-- kW, of a generator
+abbrev pub mostBaseline : ℕ
+mostBaseline = 1_000_000
+
+-- kW, of an expected capacity that may be bid
+abbrev pub leastBid : ℕ
+leastBid = 1_000

@@ -1,0 +1,49 @@
+-- The settlement state (document 01, 'Operations and their refusals').
+use mathlib.Core.Bool.{Bool, not, _&&_, _||_}
+use mathlib.Core.List.{List, [], _∷_}
+use Prim.Native.Nat.{ℕ, _+_, _*_}
+use lib.Dec.{ltb, eqb}
+use lib.IntN.{ℤ, pos, natAbs, _+ℤ_}
+use lib.ListN.{replicate}
+use Rattle.numbers.specs.Lists.{any}
+use Rattle.numbers.specs.PointNumbers.{isNumber}
+use Rattle.ledger.specs.Limits.{mostResult}
+use Rattle.ledger.specs.Heads.{contentRefusal}
+use Rattle.ledger.specs.declared.Head.{Head}
+use Rattle.ledger.specs.declared.State.{State}
+
+-- 'a state with no points, totals 0 and twenty-two digits 0 as last number'
+abbrev pub opened : Head → List ℕ → State
+opened h marks = record { head = h; marks = marks; points = 0; totals = replicate 6 (pos 0); last = replicate 22 48 }
+
+-- the state of zeros
+abbrev pub noHead : Head
+noHead = record { year = 0; month = 0; day = 0; slot = 0; losses = replicate 3 0; contract = 0; count = 0 }
+
+abbrev pub noState : State
+noState = record { head = noHead; marks = replicate 30 0; points = 0; totals = replicate 6 (pos 0); last = replicate 22 0 }
+
+-- 9: 'a state with contents that opening refuses, more points taken than its count, a slot total beyond 4,000,000,000 × points taken on
+-- either side of zero, or, with points taken, a last number that is not an allowed point number'
+unfoldable pub isUnsound : State → Bool
+isUnsound state =
+    not (eqb (contentRefusal (state .head) (state .marks)) 0)
+    || ltb (state .head .count) (state .points)
+    || any (λ total. ltb (mostResult * state .points) (natAbs total)) (state .totals)
+    || ltb 0 (state .points) && not (isNumber (state .last))
+
+-- slot by slot
+unfoldable pub plus : List ℤ → List ℤ → List ℤ
+plus [] ys = []
+plus (x ∷ xs) [] = []
+plus (x ∷ xs) (y ∷ ys) = (x +ℤ y) ∷ plus xs ys
+
+-- 'it adds the results to the state's six slot totals, raises points taken by one and keeps the number'
+unfoldable pub taken : State → List ℤ → List ℕ → State
+taken state found number = record {
+  head = state .head;
+  marks = state .marks;
+  points = state .points + 1;
+  totals = plus (state .totals) found;
+  last = number;
+}

@@ -1,0 +1,81 @@
+ghost use mathlib.Core.Path.{_≡_};
+ghost use Rattle.ledger.specs.States.{noState};
+
+// The values of a head (document 01, 'The test book').
+pub struct Head {
+    pub year: u16,
+    pub month: u8,
+    pub day: u8,
+    // s, the first slot of the window
+    pub slot: u8,
+    // low, high, extra-high, in hundredths of a percent
+    pub losses: [u16; 3],
+    // kW
+    pub contract: u32,
+    pub count: u32,
+}
+
+// The settlement state. It goes in and comes back by value, and no field of it is trusted.
+pub struct State {
+    pub head: Head,
+    // day 1 back first
+    pub marks: [u8; 30],
+    // points taken
+    pub points: u32,
+    // slot totals, in Wh
+    pub totals: [i64; 6],
+    // the last point number
+    pub last: [u8; 22],
+}
+
+// The closing figures: total in Wh, the others in kW.
+pub struct Figures {
+    pub total: i64,
+    pub settled: i64,
+    pub shortfall: u64,
+    pub expected: u64,
+    pub kept: u64,
+    pub surplus: u64,
+    pub points: u32,
+    pub bid: bool,
+}
+
+// The answer of opening; refusal 0 is accepted.
+pub struct Opened {
+    pub refusal: u32,
+    pub state: State,
+}
+
+// The answer of adding.
+pub struct Added {
+    pub refusal: u32,
+    pub state: State,
+}
+
+// The answer of closing.
+pub struct Closed {
+    pub refusal: u32,
+    pub figures: Figures,
+}
+
+// The state of zeros, which a refused opening gives.
+pub fn no_state() -> State
+    ensures { λ r. ⌜ r ≡ noState ⌝ }
+{
+    let head = Head {
+        year: 0,
+        month: 0,
+        day: 0,
+        slot: 0,
+        losses: [0; 3],
+        contract: 0,
+        count: 0,
+    };
+    State {
+        head,
+        marks: [0; 30],
+        points: 0,
+        totals: [0; 6],
+        last: [0; 22],
+    }
+}
