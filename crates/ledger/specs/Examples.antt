@@ -2,15 +2,15 @@
 use mathlib.Core.Path.{_≡_}
 use mathlib.Core.Bool.{Bool, cond, _&&_}
 use mathlib.Core.List.{List, [], _∷_, _++_, map}
-use Prim.Native.Nat.{ℕ, _+_, _*_, _%_}
-use lib.Dec.{leb, ltb}
-use lib.IntN.{ℤ, pos, negsuc}
+use Prim.Native.Nat.{ℕ, _*_, _%_}
+use lib.Dec.{leb}
+use lib.IntN.{ℤ, pos, negℤ}
 use lib.ListN.{length, take, replicate}
 use Rattle.numbers.specs.Lists.{run, gather}
 use Rattle.numbers.specs.Words.{bytesOf}
 use Rattle.calendar.specs.Dates.{dayCount}
 use Rattle.calendar.specs.Eligible.{ofDay, eligibleDays}
-use Rattle.baseline.specs.Choosing.{round, standing, chosen}
+use Rattle.baseline.specs.Choosing.{standing, chosen}
 use Rattle.ledger.specs.Figures.{figuresOf}
 use Rattle.ledger.specs.Operations.{openOf, addOf, placesOf}
 use Rattle.ledger.specs.declared.State.{State}
@@ -23,9 +23,12 @@ pub record Example : Type 0 where
 abbrev pub plain : List ℕ → List ℤ
 plain numbers = map pos numbers
 
--- Days whose window sums are given, nearest first.
-abbrev pub daysWith : List ℕ → List ℕ
-daysWith sums = run (λ k. k) 1 (length sums)
+-- the days that stand, and the four that are used, of days with these window sums, nearest first
+abbrev pub standingOf : List ℕ → List ℕ
+standingOf sums = standing (ofDay sums) (run (λ k. k) 1 (length sums))
+
+abbrev pub chosenOf : List ℕ → List ℕ
+chosenOf sums = chosen (ofDay sums) (run (λ k. k) 1 (length sums))
 
 -- H's list: 2024-08-07, s 26, losses 700, 400, 200, contract 1,000, count 1
 abbrev pub head : List ℕ
@@ -47,12 +50,49 @@ highVoltage earlier used =
 unfoldable pub placesWith : ℕ → ℕ → List ℤ
 placesWith earlier used = placesOf (stateWith (replicate 30 0)) 3 (highVoltage earlier used) (replicate 6 (pos 0))
 
+-- the closing figures of a total
+abbrev pub settled : ℤ → ℤ
+settled total = figuresOf 1_000 (total ∷ replicate 5 (pos 0)) 1 .settled
+
+-- whether an expected capacity may be bid: 1 or 0
+abbrev pub bid : ℕ → ℤ
+bid expected = cond (figuresOf 1_000 (pos (3_000 * expected) ∷ replicate 5 (pos 0)) 1 .bid) (pos 1) (pos 0)
+
+-- six times the same
+abbrev pub six : ℤ → List ℤ
+six result = replicate 6 result
+
 unfoldable pub examples : List Example
 examples =
-    -- A
+    -- A: 2024-01-31 is day 8796, a Wednesday
     record { given = plain (dayCount 2024 1 31 ∷ dayCount 2024 1 31 % 7 ∷ []); told = plain (8_796 ∷ 4 ∷ []) }
-    -- B
+    -- B: 2024-08-07 with all marks 0: nearest five
     ∷ record { given = plain (take 5 (eligibleDays (dayCount 2024 8 7) (replicate 30 0))); told = plain (1 ∷ 2 ∷ 5 ∷ 6 ∷ 7 ∷ []) }
-    -- C
+    -- C: thirty marks of 1
     ∷ record { given = plain (addOf (stateWith (replicate 30 1)) 3 (highVoltage 1_200 240) 6 .refusal ∷ []); told = plain (18 ∷ []) }
+    -- D: the third goes
+    ∷ record { given = plain (chosenOf (100 ∷ 90 ∷ 90 ∷ 120 ∷ 130 ∷ [])); told = plain (1 ∷ 2 ∷ 4 ∷ 5 ∷ []) }
+    -- E: the fifth is dropped and a sixth day sought
+    ∷ record { given = plain (standingOf (100 ∷ 100 ∷ 100 ∷ 100 ∷ 21 ∷ 100 ∷ [])); told = plain (1 ∷ 2 ∷ 3 ∷ 4 ∷ 6 ∷ []) }
+    -- F: it stays in that round
+    ∷ record { given = plain (standingOf (100 ∷ 100 ∷ 100 ∷ 100 ∷ 22 ∷ 100 ∷ [])); told = plain (1 ∷ 2 ∷ 3 ∷ 4 ∷ 5 ∷ []) }
+    -- G: drops none
+    ∷ record { given = plain (standingOf (19 ∷ 19 ∷ 19 ∷ 19 ∷ 4 ∷ 19 ∷ [])); told = plain (1 ∷ 2 ∷ 3 ∷ 4 ∷ 5 ∷ []) }
+    -- H, I, J: use 240, 241, 1,201
+    ∷ record { given = placesWith 1_200 240; told = six (pos 1_000) }
+    ∷ record { given = placesWith 1_200 241; told = six (pos 998) }
+    ∷ record { given = placesWith 1_200 1_201; told = six (negℤ (pos 2)) }
+    -- K: as H, but the test day's earlier readings all 0
+    ∷ record { given = placesWith 0 240; told = six (negℤ (pos 250)) }
+    -- L: totals 2,999 and −1; expected 999 and 1,000
+    ∷ record { given = settled (pos 2_999) ∷ settled (negℤ (pos 1)) ∷ bid 999 ∷ bid 1_000 ∷ []; told = pos 0 ∷ negℤ (pos 1) ∷ pos 0 ∷ pos 1 ∷ [] }
     ∷ []
+
+-- what is given is what is told, in each of some examples
+abbrev pub Hold : List Example → Type 0
+Hold [] = Unit {0}
+Hold (e ∷ es) = (e .given ≡ e .told) × Hold es
+
+-- THE CHECKED EXAMPLES
+abbrev pub CheckedExamples : Type 0
+CheckedExamples = Hold examples

@@ -4,4 +4,6 @@ pub mod Points
 pub mod States
 pub mod Figures
 pub mod Operations
+pub mod Account
+pub mod Demand3
 pub mod Examples

@@ -1,0 +1,118 @@
+-- DEMAND 3, one claim about every sequence of calls on one test.
+use mathlib.Core.Path.{_≡_}
+use mathlib.Core.Logic.{_↔_}
+use mathlib.Core.Bool.{Bool, true, false, cond, not, _&&_, _||_}
+use mathlib.Core.List.{List, [], _∷_, _++_, map}
+use mathlib.Core.Option.{Option, none, some}
+use Prim.Native.Nat.{ℕ, zero, suc, _+_, _*_, _/_, _<_}
+use lib.Dec.{T, eqb}
+use lib.IntN.{ℤ, pos}
+use lib.Signed.{leZ}
+use lib.ListN.{length}
+use Rattle.numbers.specs.Lists.{any, gather}
+use Rattle.numbers.specs.Integers.{divides, sumℤ}
+use Rattle.ledger.specs.Heads.{headOf}
+use Rattle.ledger.specs.Points.{Kind, consumer, generator, unknown, Quotient, kindOf, quotients, rounded}
+use Rattle.ledger.specs.Operations.{openOf, addOf, closeOf}
+use Rattle.ledger.specs.Account.{Call, adding, closing, Account, opening, takes, after, Said, partsOfkW, partsOfWatt, partsOfWh, account}
+use Rattle.ledger.specs.declared.Head.{Head}
+use Rattle.ledger.specs.declared.State.{State}
+use Rattle.ledger.specs.declared.Figures.{Figures}
+
+-- ---- the program: each call gets 'the state that the opening or the last adding gave; a closing leaves it as it is'
+
+pub data Reply : Type 0 where
+  refused : ℕ → Reply
+  accepted : Reply
+  closed : Figures → Reply
+
+abbrev pub replyOf : ℕ → Reply → Reply
+replyOf refusal reply = cond (eqb refusal 0) reply (refused refusal)
+
+unfoldable pub replies : State → List Call → List Reply
+replies state [] = []
+replies state (adding tag value places ∷ calls) =
+    replyOf (addOf state tag value places .refusal) accepted ∷ replies (addOf state tag value places .state) calls
+replies state (closing ∷ calls) = replyOf (closeOf state .refusal) (closed (closeOf state .figures)) ∷ replies state calls
+
+unfoldable pub program : List ℕ → List ℕ → List Call → List Reply
+program head calendar calls = replyOf (openOf head calendar .refusal) accepted ∷ replies (openOf head calendar .state) calls
+
+-- ---- the points that the account took, before each call
+
+pub record Point : Type 0 where
+  pub tag : ℕ
+  pub value : List ℕ
+
+abbrev pub tookBy : Account → Call → List Point
+tookBy a (adding tag value places) = cond (takes a tag value places) (record { tag = tag; value = value } ∷ []) []
+tookBy a closing = []
+
+unfoldable pub takenBefore : Account → List Point → List Call → List (List Point)
+takenBefore a points [] = []
+takenBefore a points (call ∷ calls) = points ∷ takenBefore (after a call) (points ++ tookBy a call) calls
+
+abbrev pub takenAll : Option Account → List Call → List (List Point)
+takenAll none calls = [] ∷ map (λ call. []) calls
+takenAll (some a) calls = [] ∷ takenBefore a [] calls
+
+-- ---- the divisions
+
+-- 'the six of each consumer'; a generator has none
+abbrev pub divisionsBy : Head → List ℕ → Kind → List ℕ → List Quotient
+divisionsBy h marks consumer value = quotients h marks consumer value
+divisionsBy h marks generator value = []
+divisionsBy h marks unknown value = []
+
+abbrev pub divisions : Head → List ℕ → List Point → List Quotient
+divisions h marks points = gather (λ p. divisionsBy h marks (kindOf (p .tag)) (p .value)) points
+
+abbrev pub allQuotients : Head → List ℕ → List Point → List Quotient
+allQuotients h marks points = gather (λ p. quotients h marks (kindOf (p .tag)) (p .value)) points
+
+-- 'the total of those points' rounded results'
+abbrev pub roundedTotal : Head → List ℕ → List Point → ℤ
+roundedTotal h marks points = sumℤ (map rounded (allQuotients h marks points))
+
+-- no division on the way left a remainder
+unfoldable pub noRemainder : Head → List ℕ → List Point → Bool
+noRemainder h marks points =
+    not (any (λ q. not (divides (q .den) (q .num))) (divisions h marks points)) && divides 3_000 (roundedTotal h marks points)
+
+-- ---- the comparison
+
+-- each divisor goes into the parts of a Wh: the account rounds nothing
+unfoldable pub keepsFractions : Head → List ℕ → List Point → Bool
+keepsFractions h marks points = not (any (λ q. not (divides (q .den) (pos (partsOfWh h)))) (allQuotients h marks points))
+
+-- 'the settled capacity reaches the contract or no division on the way left a remainder'
+abbrev pub noLoss : Head → List ℕ → List Point → Figures → Bool
+noLoss h marks points figures = leZ (pos (h .contract)) (figures .settled) || noRemainder h marks points
+
+-- An accepted closing: the printed shortfall in whole kW, times the parts of a kW, beside the exact one in parts.
+pub record Accurate (h : Head) (marks : List ℕ) (points : List Point) (figures : Figures) (exact : ℕ) : Type 0 where
+  pub counted : figures .points ≡ length points
+  pub unrounded : T (keepsFractions h marks points)
+  pub equal : (figures .shortfall * partsOfkW h ≡ exact) ↔ T (noLoss h marks points figures)
+  -- 'At every other accepted closing the printed one is the greater, by less than one kW plus two watts for each point accepted'
+  pub otherwise : T (not (noLoss h marks points figures))
+      → (exact < figures .shortfall * partsOfkW h)
+      × (figures .shortfall * partsOfkW h < exact + (partsOfkW h + 2 * partsOfWatt h * length points))
+
+-- accepted by both or refused by both; at an accepted closing the two shortfalls are as they should be
+pub data Agree (h : Head) (marks : List ℕ) (points : List Point) : Reply → Said → Type 0 where
+  both-refuse : {n : ℕ} → Agree h marks points (refused n) Said.refused
+  both-accept : Agree h marks points accepted Said.accepted
+  both-close : {figures : Figures} {exact : ℕ} → Accurate h marks points figures exact → Agree h marks points (closed figures) (Said.closed exact)
+
+-- at every place of the sequence
+pub data AgreeAll (h : Head) (marks : List ℕ) : List (List Point) → List Reply → List Said → Type 0 where
+  end : AgreeAll h marks [] [] []
+  next : {points : List Point} {reply : Reply} {says : Said} {pointss : List (List Point)} {replies : List Reply} {sayss : List Said}
+      → Agree h marks points reply says
+      → AgreeAll h marks pointss replies sayss
+      → AgreeAll h marks (points ∷ pointss) (reply ∷ replies) (says ∷ sayss)
+
+abbrev pub Demand3 : Type 0
+Demand3 = (head calendar : List ℕ) (calls : List Call)
+    → AgreeAll (headOf head) calendar (takenAll (opening head calendar) calls) (program head calendar calls) (account head calendar calls)
