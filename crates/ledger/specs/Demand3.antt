@@ -12,7 +12,7 @@ use lib.ListN.{length}
 use Rattle.numbers.specs.Lists.{any, gather}
 use Rattle.numbers.specs.Integers.{divides, sumℤ}
 use Rattle.ledger.specs.Heads.{headOf}
-use Rattle.ledger.specs.Points.{Kind, consumer, generator, unknown, Quotient, kindOf, quotients, rounded}
+use Rattle.ledger.specs.Points.{Point, Kind, consumer, generator, unknown, Quotient, kindOf, quotients, rounded}
 use Rattle.ledger.specs.Operations.{openOf, addOf, closeOf}
 use Rattle.ledger.specs.Account.{Call, adding, closing, Account, opening, takes, after, Said, partsOfkW, partsOfWatt, partsOfWh, account}
 use Rattle.ledger.specs.declared.Head.{Head}
@@ -39,10 +39,6 @@ unfoldable pub program : List ℕ → List ℕ → List Call → List Reply
 program head calendar calls = replyOf (openOf head calendar .refusal) accepted ∷ replies (openOf head calendar .state) calls
 
 -- ---- the points that the account took, before each call
-
-pub record Point : Type 0 where
-  pub tag : ℕ
-  pub value : List ℕ
 
 abbrev pub tookBy : Account → Call → List Point
 tookBy a (adding tag value places) = cond (takes a tag value places) (record { tag = tag; value = value } ∷ []) []

@@ -14,6 +14,11 @@ use Rattle.ledger.specs.Limits.{mostBaseline}
 use Rattle.ledger.specs.Heads.{testDay}
 use Rattle.ledger.specs.declared.Head.{Head}
 
+-- a point: its tag and its value
+pub record Point : Type 0 where
+  pub tag : ℕ
+  pub value : List ℕ
+
 -- The kinds of point: a further kind is a line in each definition by kind.
 pub data Kind : Type 0 where
   consumer generator unknown : Kind

@@ -1,0 +1,67 @@
+-- DEMAND 2, its second half: a book that we write reads back, and a book that is read in full would be written with the same bytes.
+use mathlib.Core.Path.{_≡_}
+use mathlib.Core.Bool.{Bool, true, false, not, _&&_}
+use mathlib.Core.List.{List, [], _∷_, _++_, map}
+use Prim.Native.Nat.{ℕ, _+_, _<_}
+use lib.Dec.{T}
+use lib.ListN.{length, getD}
+use Rattle.numbers.specs.Lists.{any}
+use Rattle.numbers.specs.PointNumbers.{below}
+use Rattle.ledger.specs.Heads.{headOf, openingRefusal}
+use Rattle.ledger.specs.Points.{Point, kindOf, numberOf, lacksDays}
+use Rattle.ledger.specs.Operations.{closeOf}
+use Rattle.ledger.specs.Account.{Call, adding, closing}
+use Rattle.ledger.specs.Demand3.{Reply, accepted, closed, program}
+use Rattle.book.specs.Reading.{Reading, refused, good, Contents, Book, readBook}
+use Rattle.book.specs.Writing.{pointWritingRefusal, writtenBook}
+use Rattle.book.specs.Settling.{settlingRefusal}
+
+-- 'rising in number', after a number and from the first point on
+abbrev pub risesAfter : List ℕ → List Point → Bool
+risesAfter number [] = true
+risesAfter number (p ∷ points) = below number (numberOf (p .value)) && risesAfter (numberOf (p .value)) points
+
+abbrev pub rises : List Point → Bool
+rises [] = true
+rises (p ∷ points) = risesAfter (numberOf (p .value)) points
+
+-- what a point's field takes
+abbrev pub roomFor : Point → ℕ
+roomFor p = 3 + length (p .value)
+
+abbrev pub Each : (Point → Type 0) → List Point → Type 0
+Each P [] = Unit {0}
+Each P (p ∷ points) = P p × Each P points
+
+-- 'points as many as its head says, rising in number and each able to show its days', of a head and points that writing takes
+pub record Writable (b : Contents) : Type 0 where
+  pub head : openingRefusal (b .head) (b .calendar) ≡ 0
+  pub count : length (b .points) ≡ headOf (b .head) .count
+  pub rising : T (rises (b .points))
+  pub taken : Each (λ p. pointWritingRefusal (p .tag) (p .value) (roomFor p) ≡ 0) (b .points)
+  pub showsDays : Each (λ p. T (not (lacksDays (headOf (b .head)) (b .calendar) (kindOf (p .tag)) (p .value)))) (b .points)
+
+-- the calls that a book stands for
+abbrev pub callsOf : List Point → List Call
+callsOf points = map (λ p. adding (p .tag) (p .value) 6) points ++ closing ∷ []
+
+-- 'reads back to the head, calendar and points put in'
+abbrev pub ReadsBack : Type 0
+ReadsBack = (b : Contents) → Writable b → (r : Book) × (readBook (writtenBook b) ≡ good r) × (r .contents ≡ b)
+
+-- what a slice of bytes holds
+abbrev pub Bytes : List ℕ → Type 0
+Bytes bytes = (i : ℕ) → getD bytes i 0 < 256
+
+-- 'A book that is read in full would be written with the same bytes.'
+abbrev pub WritesSame : Type 0
+WritesSame = (book : List ℕ) → Bytes book → (r : Book) → readBook book ≡ good r → Writable (r .contents) × (writtenBook (r .contents) ≡ book)
+
+-- A book that gives 0 is one that is read in full, and its figures are those of the calls on the values handed on.
+abbrev pub GivesFigures : Type 0
+GivesFigures = (book : List ℕ)
+    → settlingRefusal book 64 ≡ 0
+    → (r : Book)
+    × (readBook book ≡ good r)
+    × (program (r .contents .head) (r .contents .calendar) (callsOf (r .contents .points))
+    ≡ accepted ∷ map (λ p. accepted) (r .contents .points) ++ closed (closeOf (r .state) .figures) ∷ [])

@@ -1,0 +1,5 @@
+pub mod Fields
+pub mod Reading
+pub mod Writing
+pub mod Settling
+pub mod Demand2

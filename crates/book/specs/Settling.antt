@@ -1,0 +1,44 @@
+-- WHOLE BOOK (document 01): the answer, and what the lent 64 bytes hold afterwards.
+use mathlib.Core.Bool.{Bool, cond, not}
+use mathlib.Core.List.{List, [], _∷_}
+use Prim.Native.Nat.{ℕ}
+use lib.Dec.{eqb}
+use lib.IntN.{ℤ, pos}
+use lib.ListN.{length}
+use Rattle.numbers.specs.Lists.{gather}
+use Rattle.numbers.specs.Words.{bytesOf, twosComplement}
+use Rattle.ledger.specs.Figures.{noFigures}
+use Rattle.ledger.specs.Operations.{closeOf}
+use Rattle.ledger.specs.declared.Figures.{Figures}
+use Rattle.ledger.specs.declared.Closed.{Closed}
+use Rattle.book.specs.Reading.{Reading, refused, good, Book, readBook}
+
+-- the closing of a book that is read in full
+abbrev pub closingOf : Reading Book → Closed
+closingOf (refused refusal) = record { refusal = refusal; figures = noFigures }
+closingOf (good book) = closeOf (book .state)
+
+-- 'total, settled, shortfall, expected, kept, surplus, points, bid (1 or 0)'
+abbrev pub wordsOf : Figures → List ℤ
+wordsOf f =
+    f .total
+    ∷ f .settled
+    ∷ pos (f .shortfall)
+    ∷ pos (f .expected)
+    ∷ pos (f .kept)
+    ∷ pos (f .surplus)
+    ∷ pos (f .points)
+    ∷ pos (cond (f .bid) 1 0)
+    ∷ []
+
+-- 'eight signed 8-byte words (two's complement, high byte first)'
+abbrev pub resultBytes : Figures → List ℕ
+resultBytes f = gather (λ word. bytesOf 8 (twosComplement word)) (wordsOf f)
+
+-- 40: not 64 bytes; then field by field
+unfoldable pub settlingRefusal : List ℕ → ℕ → ℕ
+settlingRefusal book room = cond (eqb room 64) (closingOf (readBook book) .refusal) 40
+
+unfoldable pub settlingResult : List ℕ → List ℕ → List ℕ
+settlingResult book result =
+    cond (eqb (settlingRefusal book (length result)) 0) (resultBytes (closingOf (readBook book) .figures)) result
