@@ -1,6 +1,10 @@
 ghost use mathlib.Core.Path.{_≡_};
 ghost use Rattle.ledger.specs.States.{noState};
 
+pub mod heads;
+pub mod points;
+pub mod refusals;
+
 // The values of a head (document 01, 'The test book').
 pub struct Head {
     pub year: u16,
