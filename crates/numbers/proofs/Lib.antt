@@ -1,2 +1,3 @@
 pub mod Filling
 pub mod Refusals
+pub mod Machine
