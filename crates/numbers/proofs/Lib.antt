@@ -1,3 +1,5 @@
+pub mod Differences
+pub mod Floors
 pub mod Filling
 pub mod Refusals
 pub mod Machine
