@@ -4,6 +4,7 @@ ghost use Rattle.ledger.specs.States.{noState};
 pub mod heads;
 pub mod points;
 pub mod refusals;
+pub mod results;
 
 // The values of a head (document 01, 'The test book').
 pub struct Head {
