@@ -1,3 +1,4 @@
 pub mod Filling
 pub mod Refusals
 pub mod Machine
+pub mod Sums
