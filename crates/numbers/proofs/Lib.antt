@@ -3,3 +3,4 @@ pub mod Floors
 pub mod Filling
 pub mod Refusals
 pub mod Machine
+pub mod Sums

@@ -1,10 +1,10 @@
 ghost use mathlib.Core.Path.{_≡_};
-ghost use Prim.Native.Nat.{_+_, _*_, _≤_, _<_};
+ghost use Prim.Native.Nat.{ℕ, _+_, _*_, _/_, _%_, _≤_, _<_};
 ghost use lib.IntN.{pos, natAbs, _+ℤ_, _-ℤ_};
 ghost use lib.Signed.{mag};
-ghost use lib.ListN.{length};
-ghost use Rattle.numbers.specs.Integers.{floorDiv, orZero};
-ghost use Rattle.numbers.specs.Words.{word16, word32};
+ghost use lib.ListN.{length, getD};
+ghost use Rattle.numbers.specs.Integers.{floorDiv, orZero, sumℤ};
+ghost use Rattle.numbers.specs.Words.{word16, word32, bytesOf, twosComplement};
 
 // Two bytes, high byte first.
 pub fn big16(a: u8, b: u8) -> u16
@@ -89,4 +89,62 @@ pub fn minus(a: u64, b: u64) -> i64
     ensures { λ r. ⌜ r ≡ pos a -ℤ pos b ⌝ }
 {
     (a as i64) - (b as i64)
+}
+
+// The six slot totals together.
+pub fn total_of(totals: [i64; 6]) -> i64
+    requires { ⌜ ((i : ℕ) → natAbs (getD totals i (pos 0)) ≤ 1000000000000000) ⌝ }
+    ensures { λ r. ⌜ r ≡ sumℤ totals ⌝ }
+{
+    let mut total: i64 = 0;
+    let mut i: usize = 0;
+    while i < 6 {
+        total = add_bounded(total, totals[i]);
+        i += 1;
+    }
+    total
+}
+
+// A number as eight bytes hold it.
+fn twos_complement(z: i64) -> u64
+    ensures { λ r. ⌜ r ≡ twosComplement z ⌝ }
+{
+    if z < 0 {
+        18446744073709551615 - magnitude(z)
+    } else {
+        magnitude(z)
+    }
+}
+
+// The byte of a number whose unit is a power of 256.
+fn byte_of(number: u64, unit: u64) -> u8
+    requires { ⌜ 0 < unit ⌝ }
+    ensures { λ r. ⌜ r ≡ number / unit % 256 ⌝ }
+{
+    (number / unit % 256) as u8
+}
+
+// Eight bytes in two's complement, high byte first.
+pub fn word_bytes(z: i64) -> [u8; 8]
+    ensures { λ r. ⌜ r ≡ bytesOf 8 (twosComplement z) ⌝ }
+{
+    let number = twos_complement(z);
+    [
+        byte_of(number, 72057594037927936),
+        byte_of(number, 281474976710656),
+        byte_of(number, 1099511627776),
+        byte_of(number, 4294967296),
+        byte_of(number, 16777216),
+        byte_of(number, 65536),
+        byte_of(number, 256),
+        byte_of(number, 1),
+    ]
+}
+
+// The two bytes of a field's length, high byte first.
+pub fn length_bytes(n: u16) -> [u8; 2]
+    ensures { λ r. ⌜ r ≡ bytesOf 2 n ⌝ }
+{
+    let number = n as u64;
+    [byte_of(number, 256), byte_of(number, 1)]
 }
