@@ -1,3 +1,4 @@
+pub mod FigureSteps
 pub mod Ranges
 pub mod SlotResults
 pub mod Examples

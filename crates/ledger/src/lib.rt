@@ -1,10 +1,9 @@
-ghost use mathlib.Core.Path.{_≡_};
-ghost use Rattle.ledger.specs.States.{noState};
-
+pub mod closing;
 pub mod heads;
 pub mod points;
 pub mod refusals;
 pub mod results;
+pub mod states;
 
 // The values of a head (document 01, 'The test book').
 pub struct Head {
@@ -61,26 +60,4 @@ pub struct Added {
 pub struct Closed {
     pub refusal: u32,
     pub figures: Figures,
-}
-
-// The state of zeros, which a refused opening gives.
-pub fn no_state() -> State
-    ensures { λ r. ⌜ r ≡ noState ⌝ }
-{
-    let head = Head {
-        year: 0,
-        month: 0,
-        day: 0,
-        slot: 0,
-        losses: [0; 3],
-        contract: 0,
-        count: 0,
-    };
-    State {
-        head,
-        marks: [0; 30],
-        points: 0,
-        totals: [0; 6],
-        last: [0; 22],
-    }
 }

@@ -4,3 +4,4 @@ pub mod Filling
 pub mod Refusals
 pub mod Machine
 pub mod Sums
+pub mod Scanning

@@ -1,0 +1,60 @@
+// The settlement state.
+ghost use mathlib.Core.Path.{_≡_};
+ghost use mathlib.Core.List.{List};
+ghost use Prim.Native.Nat.{ℕ};
+ghost use lib.Dec.{ltb};
+ghost use lib.IntN.{ℤ, natAbs};
+ghost use Rattle.numbers.specs.Lists.{any};
+ghost use Rattle.ledger.specs.States.{opened, noState, isUnsound};
+use crate::Head;
+use crate::State;
+use crate::heads;
+
+// The state that an accepted opening gives.
+pub fn opened_state(head: Head, marks: [u8; 30]) -> State
+    ensures { λ r. ⌜ r ≡ opened head marks ⌝ }
+{
+    State {
+        head,
+        marks,
+        points: 0,
+        totals: [0; 6],
+        last: [48; 22],
+    }
+}
+
+// The state of zeros, which a refused opening gives.
+pub fn no_state() -> State
+    ensures { λ r. ⌜ r ≡ noState ⌝ }
+{
+    let head = Head {
+        year: 0,
+        month: 0,
+        day: 0,
+        slot: 0,
+        losses: [0; 3],
+        contract: 0,
+        count: 0,
+    };
+    State {
+        head,
+        marks: [0; 30],
+        points: 0,
+        totals: [0; 6],
+        last: [0; 22],
+    }
+}
+
+// Whether one of the totals is beyond a limit, on either side of zero.
+fn has_beyond(totals: [i64; 6], most: u64) -> bool
+    ensures { λ r. ⌜ r ≡ any (λ total. ltb most (natAbs total)) totals ⌝ }
+{
+    let mut i: usize = 0;
+    while i < 6 {
+        if most < numbers::size_of(totals[i]) {
+            return true;
+        }
+        i += 1;
+    }
+    false
+}
