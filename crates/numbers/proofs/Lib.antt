@@ -2,3 +2,4 @@ pub mod Filling
 pub mod Refusals
 pub mod Machine
 pub mod Sums
+pub mod PointNumbers
