@@ -1,7 +1,8 @@
 pub mod Differences
-pub mod Floors
 pub mod Filling
-pub mod Refusals
+pub mod Floors
 pub mod Machine
-pub mod Sums
+pub mod PointNumbers
+pub mod Refusals
 pub mod Scanning
+pub mod Sums

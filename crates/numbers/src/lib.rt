@@ -4,6 +4,7 @@ ghost use lib.IntN.{pos, natAbs, _+ℤ_, _-ℤ_};
 ghost use lib.Signed.{mag};
 ghost use lib.ListN.{length, getD};
 ghost use Rattle.numbers.specs.Integers.{floorDiv, orZero, sumℤ};
+ghost use Rattle.numbers.specs.PointNumbers.{digits, same, isNumber, below};
 ghost use Rattle.numbers.specs.Words.{word16, word32, bytesOf, twosComplement};
 
 // Two bytes, high byte first.
@@ -147,4 +148,69 @@ pub fn length_bytes(n: u16) -> [u8; 2]
 {
     let number = n as u64;
     [byte_of(number, 256), byte_of(number, 1)]
+}
+
+// ASCII digits alone.
+fn is_digits(bytes: &[u8]) -> bool
+    ensures { λ r. ⌜ r ≡ digits (now (bytes .entry)) ⌝ }
+{
+    let mut i: usize = 0;
+    while i < bytes.len() {
+        let byte = bytes[i];
+        match byte {
+            48..=57 => {}
+            _ => return false,
+        }
+        i += 1;
+    }
+    true
+}
+
+// The same bytes.
+fn is_same(a: &[u8], b: &[u8]) -> bool
+    requires { ⌜ length (now a) ≡ length (now b) ⌝ }
+    ensures { λ r. ⌜ r ≡ same (now (a .entry)) (now (b .entry)) ⌝ }
+{
+    let mut i: usize = 0;
+    while i < a.len() {
+        let x = a[i];
+        let y = b[i];
+        if x != y {
+            return false;
+        }
+        i += 1;
+    }
+    true
+}
+
+// An allowed point number: 22 digits, and not the nines of a number not yet issued.
+pub fn is_number(number: &[u8]) -> bool
+    ensures { λ r. ⌜ r ≡ isNumber (now (number .entry)) ⌝ }
+{
+    if number.len() != 22 {
+        return false;
+    }
+    if !is_digits(number) {
+        return false;
+    }
+    !is_same(number, b"9999999999999999999999")
+}
+
+// Whether one number is below another of as many digits.
+pub fn is_below(a: &[u8], b: &[u8]) -> bool
+    ensures { λ r. ⌜ r ≡ below (now (a .entry)) (now (b .entry)) ⌝ }
+{
+    let mut i: usize = 0;
+    while i < a.len() {
+        if b.len() <= i {
+            return false;
+        }
+        let x = a[i];
+        let y = b[i];
+        if x != y {
+            return x < y;
+        }
+        i += 1;
+    }
+    false
 }
