@@ -1,4 +1,5 @@
 pub mod Filling
+pub mod Tables
 pub mod Refusals
 pub mod Machine
 pub mod Sums
