@@ -6,3 +6,4 @@ pub mod PointNumbers
 pub mod Refusals
 pub mod Scanning
 pub mod Sums
+pub mod Tables

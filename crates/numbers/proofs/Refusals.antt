@@ -1,12 +1,17 @@
 -- Tables of refusals: one that tells 0 has no test that fits, and back. Assumes nothing.
 use mathlib.Core.Path.{_≡_, refl}
-use mathlib.Core.Bool.{Bool, true, false, cond, _&&_}
-use mathlib.Core.List.{List, [], _∷_}
+use mathlib.Core.Bool.{Bool, true, false, cond, _&&_, _||_, true≢false}
+use mathlib.Core.List.{List, [], _∷_, _++_}
 use Prim.Native.Nat.{ℕ, _<_}
 use native.Mathlib.Omega.{arith}
 use lib.Dec.{T, ltb, ltb→lt}
 use mir.Facts.{and-yes}
 use Rattle.numbers.specs.Refusals.{firstOf}
+
+-- neither of two tests fits
+pub or-none : (a b : Bool) → a || b ≡ false → (a ≡ false) × (b ≡ false)
+or-none true b e = absurd (true≢false e)
+or-none false b e = (refl, e)
 
 -- no test of the table fits
 abbrev pub Clear : List (Bool × ℕ) → Type 0
@@ -38,3 +43,17 @@ module _ (test : Bool) (n : ℕ) (rows : List (Bool × ℕ)) where
 
   pub first-passed : test ≡ false → firstOf ((test, n) ∷ rows) ≡ firstOf rows
   first-passed e = rw e
+
+-- a table that goes on: its first rows tell a number, or none
+pub told : (rows more : List (Bool × ℕ)) → (firstOf rows ≡ 0 → ⊥) → firstOf (rows ++ more) ≡ firstOf rows
+told [] more h = absurd (h refl)
+told (row ∷ rows) more h = go (row .0) h (told rows more)
+  where
+    go : (b : Bool) → (cond b (row .1) (firstOf rows) ≡ 0 → ⊥) → ((firstOf rows ≡ 0 → ⊥) → firstOf (rows ++ more) ≡ firstOf rows)
+        → cond b (row .1) (firstOf (rows ++ more)) ≡ cond b (row .1) (firstOf rows)
+    go true h f = refl
+    go false h f = f h
+
+pub passed : (rows more : List (Bool × ℕ)) → T (numbered rows) → firstOf rows ≡ 0 → firstOf (rows ++ more) ≡ firstOf more
+passed [] more k e = refl
+passed (row ∷ rows) more k e = let c = clear (row ∷ rows) k e in rw (c .0) (passed rows more (and-yes (ltb 0 (row .1)) (numbered rows) k .1) (clear-zero rows (c .1)))
