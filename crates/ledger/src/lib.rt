@@ -1,3 +1,4 @@
+pub mod adding;
 pub mod closing;
 pub mod heads;
 pub mod points;

@@ -1,6 +1,6 @@
 // Points: the tests of a point's value that need no state, and its number.
 ghost use mathlib.Core.Path.{_≡_};
-ghost use mathlib.Core.Bool.{true, false, not, _&&_};
+ghost use mathlib.Core.Bool.{true, false, _&&_};
 ghost use Prim.Native.Nat.{ℕ, _<_, _≤_, _-_};
 ghost use lib.Dec.{leb};
 ghost use lib.ListN.{length, getD};
@@ -13,13 +13,14 @@ pub const GENERATOR: u8 = 4;
 // The kW that a generator's baseline may reach.
 const MOST_BASELINE: u32 = 1000000;
 
-pub fn is_point_tag(tag: u8) -> bool
-    ensures { λ r. ⌜ r ≡ not (isUnknown (kindOf tag)) ⌝ }
+// A tag of no kind of point.
+pub fn is_unknown_tag(tag: u8) -> bool
+    ensures { λ r. ⌜ r ≡ isUnknown (kindOf tag) ⌝ }
 {
     match tag {
-        CONSUMER => true,
-        GENERATOR => true,
-        _ => false,
+        CONSUMER => false,
+        GENERATOR => false,
+        _ => true,
     }
 }
 
