@@ -1,5 +1,4 @@
-ghost use mathlib.Core.Path.{_≡_};
-ghost use Rattle.book.specs.Fields.{refusalOf};
+pub mod fields;
 
 // Which field is due at a place of the book.
 pub enum Due {
@@ -12,14 +11,4 @@ pub enum Due {
 pub enum Field {
     Value(u8, usize),
     Refused(u32),
-}
-
-// The number of a field answer.
-pub fn refusal_of(field: Field) -> u32
-    ensures { λ r. ⌜ r ≡ refusalOf field ⌝ }
-{
-    let Field::Refused(refusal) = field else {
-        return 0;
-    };
-    refusal
 }
