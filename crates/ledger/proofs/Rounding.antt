@@ -20,19 +20,7 @@ use Rattle.numbers.proofs.Differences.{by⊖, ⊖s}
 use Rattle.numbers.proofs.Floors.{rest, rest-<, rest-is, divides-rest}
 use Rattle.ledger.specs.Points.{Quotient, rounded}
 use Rattle.ledger.specs.Figures.{settledOf, shortfallOf}
-
--- ---- a test of every element
-
-abbrev pub every {ℓ} : {A : Type ℓ} → (A → Bool) → List A → Bool
-every test xs = not (any (λ x. not (test x)) xs)
-
-both : (a b : Bool) → T (not (not a || b)) ↔ (T a × T (not b))
-both true b = (λ t. (tt, t), λ t. t .1)
-both false b = (λ t. absurd t, λ t. absurd (t .0))
-
-pub every-cons : {A : Type 0} (test : A → Bool) (x : A) (xs : List A) → T (every test (x ∷ xs)) ↔ (T (test x) × T (every test xs))
-unfolding any
-every-cons test x xs = both (test x) (any (λ x. not (test x)) xs)
+use Rattle.ledger.proofs.Lists.{every, every-cons}
 
 -- a quotient is whole
 abbrev pub whole : Quotient → Bool
