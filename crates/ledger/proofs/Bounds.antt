@@ -1,23 +1,34 @@
--- How large the slot results of an accepted point can be, and that its divisors go into the parts of a Wh. Assumes nothing.
+-- How large readings, baselines and slot results can be. Assumes nothing.
 use mathlib.Core.Path.{_≡_, refl, sym, _∙_, ap}
-use mathlib.Core.Bool.{Bool, true, false, cond, not}
-use mathlib.Core.List.{List, [], _∷_, _++_, map}
-use Prim.Native.Nat.{ℕ, zero, suc, _+_, _*_, _-_, _/_, _%_, _<_, _≤_}
-use native.Mathlib.Nat.{le-trans, add-zero, add-suc, suc-add, add-comm, add-assoc, suc-mul, suc-le-suc-iff, mul-comm}
+use mathlib.Core.Bool.{Bool, true, false, cond, not, _&&_, true≢false}
+use mathlib.Core.List.{List, [], _∷_, map}
+use Prim.Native.Nat.{ℕ, zero, suc, _+_, _*_, _-_, _<_, _≤_}
+use native.Mathlib.Nat.{le-trans, add-zero, add-suc, suc-add, add-comm, add-assoc, suc-mul}
 use native.Mathlib.Omega.{arith}
 use lib.Dec.{T, leb, ltb, eqb}
 use lib.IntN.{ℤ, pos, natAbs, _-ℤ_}
-use lib.ListN.{length, getD, take, drop, length-append, length-take, length-drop}
+use lib.ListN.{length, getD, drop, length-map}
 use lib.Seq.{getD-drop}
-use mir.Facts.{no-ltb, ltb-no}
-use borrow.Author.Tests.{ltb-true, ltb-false, eqb-true, eqb-false}
-use Rattle.numbers.specs.Lists.{run, sum, filter, any}
+use mir.Facts.{and-yes, leb-yes, no-ltb, ltb-no}
+use borrow.Author.Tests.{ltb-false, not-false}
+use Rattle.numbers.specs.Lists.{run, sum, any}
 use Rattle.numbers.specs.Words.{word16, word32}
+use Rattle.numbers.specs.Integers.{floorDiv}
 use Rattle.numbers.proofs.Filling.{run-length, run-from}
-use Rattle.calendar.specs.Eligible.{eligibleDays}
+use Rattle.numbers.proofs.Differences.{by⊖, ⊖s}
+use Rattle.numbers.proofs.Floors.{natAbs-floor, slot-bound}
+use Rattle.numbers.proofs.Refusals.{Clear, clear}
 use Rattle.baseline.specs.Readings.{mostReading, firstLarge, reading, windowSum, slotSums, daySums, earlierSlot, earlierUse}
-use Rattle.baseline.specs.Choosing.{round, walk, standing, lowest, used, chosen}
 use Rattle.baseline.specs.Baseline.{chosenDays, baseline}
+use Rattle.baseline.specs.Days.{Rising, none, next}
+use Rattle.baseline.proofs.Rising.{rising-far}
+use Rattle.ledger.specs.Limits.{mostLoss, mostBaseline, mostResult}
+use Rattle.ledger.specs.Heads.{contentTests, contentRefusal, testDay}
+use Rattle.ledger.specs.Points.{Kind, consumer, generator, unknown, kindOf, isUnknown, isUnfit, hasLarge, readingsOf, readingCount, lossOf, baselineOf, consumerQuotient, generatorQuotient, quotients, rounded, results}
+use Rattle.ledger.specs.Operations.{pointTests, pointRefusal}
+use Rattle.ledger.specs.declared.Head.{Head}
+use Rattle.ledger.proofs.Lists.{none as noneOf, none-cons, none-run, none-at, any-map}
+use Rattle.ledger.proofs.Days.{chosen-rising, chosen-four}
 
 -- ---- sums of bounded numbers
 
@@ -27,6 +38,12 @@ sum-run f most i zero p = omega arith
 sum-run f most i (suc n) p =
     let first : f i ≤ most = rw add-zero at (p 0 (omega arith)) in
     rw suc-mul (omega (arith, sum-run f most (suc i) n λ j h. rw (suc-add, ← add-suc) (p (suc j) (omega arith))))
+
+sum-days : {near far : ℕ} {days : List ℕ} (f : ℕ → ℕ) (most : ℕ) → ((k : ℕ) → k ≤ far → f k ≤ most) → Rising near far days
+    → sum (map f days) ≤ length days * most
+unfolding sum
+sum-days f most p (none l) = omega arith
+sum-days f most p (next {k = k} l r) = rw suc-mul (omega (arith, p k (rising-far 0 (next l r)), sum-days f most p r))
 
 -- ---- readings that were tested
 
@@ -45,88 +62,109 @@ first-large readings (suc n) p i h = go (ltb mostReading (word32 readings 0)) re
     go false e p f zero h = ltb-false mostReading (word32 readings 0) e
     go false e p f (suc i) h = rw (suc-mul, add-comm (i * 4) 4, ← (word32-drop readings 4 (i * 4))) (f (omega arith) i (omega arith))
 
--- ---- the chosen days: at most four, and none past the thirtieth
+module _ (readings : List ℕ) (tested : (i : ℕ) → i < 1488 → word32 readings (i * 4) ≤ mostReading) where
+  pub reading-small : (k i : ℕ) → k ≤ 30 → i < 48 → reading readings k i ≤ mostReading
+  reading-small k i hk hi = tested (48 * k + i) (omega arith)
 
-pub data AtMost (far : ℕ) : List ℕ → Type 0 where
-  none : AtMost far []
-  next : {k : ℕ} {days : List ℕ} → k ≤ far → AtMost far days → AtMost far (k ∷ days)
+  pub window-small : (s k : ℕ) → s + 6 ≤ 48 → k ≤ 30 → windowSum readings s k ≤ 6 * mostReading
+  window-small s k hs hk = sum-run (reading readings k) mostReading s 6 λ j h. reading-small k (s + j) hk (omega arith)
 
-module _ {far : ℕ} where
-  at-most-run : (i n : ℕ) → i + n ≤ suc far → AtMost far (run (λ k. k) i n)
-  unfolding run
-  at-most-run i zero h = none
-  at-most-run i (suc n) h = next {k = i} (omega arith) (at-most-run (suc i) n (omega arith))
+  -- the sum of a slot over the chosen days
+  pub slot-sum-small : {days : List ℕ} (i : ℕ) → Rising 0 30 days → length days ≤ 4 → i < 48 → sum (map (λ k. reading readings k i) days) ≤ 4 * mostReading
+  slot-sum-small i r four hi = omega (arith, sum-days (λ k. reading readings k i) mostReading (λ k h. reading-small k i h hi) r)
 
-  at-most-cond : {xs ys : List ℕ} (test : Bool) → AtMost far xs → AtMost far ys → AtMost far (cond test xs ys)
-  at-most-cond true p q = p
-  at-most-cond false p q = q
+  -- in twenty-fourths of a Wh
+  pub baseline-small : (test : ℕ) (marks : List ℕ) (s j : ℕ) → s ≤ 34 → j < 6
+      → baseline (daySums readings (chosenDays test marks readings s) s) (earlierUse readings s) j ≤ 48 * mostReading
+  unfolding daySums slotSums earlierUse
+  baseline-small test marks s j hs hj =
+      let days = chosenDays test marks readings s in
+      omega (arith,
+      run-from (λ slot. sum (map (λ k. reading readings k slot) days)) s 6 j 0 hj,
+      slot-sum-small (s + j) (chosen-rising test marks readings s) (chosen-four test marks readings s) (omega arith),
+      window-small (earlierSlot s) 0 (omega arith) (omega arith))
 
-  at-most-filter : {days : List ℕ} (test : ℕ → Bool) → AtMost far days → AtMost far (filter test days)
-  unfolding filter
-  at-most-filter test none = none
-  at-most-filter test (next {k = k} h p) = let q = at-most-filter test p in at-most-cond (test k) (next h q) q
+-- ---- slot results
 
-  at-most-append : {xs ys : List ℕ} → AtMost far xs → AtMost far ys → AtMost far (xs ++ ys)
-  at-most-append none q = q
-  at-most-append (next h p) q = next h (at-most-append p q)
+-- beyond what a slot result can be
+abbrev pub isBeyond : ℕ → ℤ → Bool
+isBeyond most z = ltb most (natAbs z)
 
-  at-most-take : {days : List ℕ} (n : ℕ) → AtMost far days → AtMost far (take n days)
-  at-most-take zero p = none
-  at-most-take (suc n) none = none
-  at-most-take (suc n) (next h p) = next h (at-most-take n p)
+loss-small : (losses : List ℕ) (i : ℕ) → T (noneOf (λ loss. ltb mostLoss loss) losses) → getD losses i 0 ≤ mostLoss
+loss-small [] i t = omega arith
+loss-small (loss ∷ losses) zero t = ltb-no (none-cons (λ loss. ltb mostLoss loss) loss losses .0 t .0)
+loss-small (loss ∷ losses) (suc i) t = loss-small losses i (none-cons (λ loss. ltb mostLoss loss) loss losses .0 t .1)
 
-  at-most-drop : {days : List ℕ} (n : ℕ) → AtMost far days → AtMost far (drop n days)
-  at-most-drop zero p = p
-  at-most-drop (suc n) none = none
-  at-most-drop (suc n) (next h p) = at-most-drop n p
+consumer-small : (loss base used : ℕ) → loss ≤ mostLoss → base ≤ 48 * mostReading → used ≤ mostReading
+    → natAbs (rounded (consumerQuotient loss base used)) ≤ mostResult
+consumer-small loss base used hl hb hu = slot-bound base used (10_000 - loss) hb hu (omega arith)
 
-  at-most-round : {five : List ℕ} (w : ℕ → ℕ) → AtMost far five → AtMost far (round w five)
-  at-most-round w p = at-most-filter _ p
-
-  at-most-walk : (w : ℕ → ℕ) (n : ℕ) (days : List ℕ) → AtMost far days → AtMost far (walk w n days)
-  unfolding walk
-  at-most-walk w zero days p = p
-  at-most-walk w (suc n) days p =
-      let five = at-most-take 5 p in
-      let left = round w (take 5 days) in
-      at-most-cond (ltb (length days) 5) p
-      (at-most-cond (eqb (length left) 5) five (at-most-walk w n (left ++ drop 5 days) (at-most-append (at-most-round w five) (at-most-drop 5 p))))
-
-  at-most-used : (w : ℕ → ℕ) (days : List ℕ) → AtMost far days → AtMost far (used w days)
-  unfolding used
-  at-most-used w [] p = p
-  at-most-used w (k ∷ days) p = at-most-cond (eqb (suc (length days)) 5) (at-most-filter (λ other. not (eqb other (lowest w k days))) p) p
-
--- none past the thirtieth
-pub chosen-days : (test : ℕ) (marks readings : List ℕ) (s : ℕ) → AtMost 30 (chosenDays test marks readings s)
-unfolding chosen
-chosen-days test marks readings s = at-most-used _ _ (at-most-walk _ _ _ (at-most-filter _ (at-most-run 1 30 (omega arith))))
-
-filter-length : (test : ℕ → Bool) (days : List ℕ) → length (filter test days) ≤ length days
-unfolding filter
-filter-length test [] = omega arith
-filter-length test (k ∷ days) = go (test k) (filter-length test days)
+generator-small : (kW metered : ℕ) → kW ≤ mostBaseline → metered ≤ mostReading → natAbs (rounded (generatorQuotient kW metered)) ≤ mostResult
+generator-small kW metered hk hm = le-trans (natAbs-floor (pos metered -ℤ pos (500 * kW)) 1) (go metered (500 * kW) (omega arith) (omega arith))
   where
-    go : (t : Bool) → length (filter test days) ≤ length days → length (cond t (k ∷ filter test days) (filter test days)) ≤ suc (length days)
-    go true h = omega arith
-    go false h = omega arith
+    go : (a b : ℕ) → a ≤ 1_000_000_000 → b ≤ 500_000_000 → natAbs (pos a -ℤ pos b) ≤ 4_000_000_000
+    go a b ha hb = simp ⊖s (omega arith)
 
-module _ (w : ℕ → ℕ) where
-  round-length : (five : List ℕ) → length (round w five) ≤ length five
-  round-length five = filter-length _ five
+-- 17 was not told
+pub tested : (kind : Kind) (value : List ℕ) → hasLarge kind value ≡ false
+    → (i : ℕ) → i < readingCount kind → word32 (readingsOf kind value) (i * 4) ≤ mostReading
+tested kind value e = first-large (readingsOf kind value) (readingCount kind) (ltb-false _ _ e)
 
-  five-standing : (n : ℕ) (days : List ℕ) → length days ≤ n → length (walk w n days) ≤ 5
-  unfolding walk
-  five-standing zero days h = omega arith
-  five-standing (suc n) days h = go (ltb (length days) 5) (eqb (length left) 5) refl refl (five-standing n (left ++ drop 5 days))
-    where
-      left : List ℕ
-      left = round w (take 5 days)
+-- A line for each kind of point.
+module _ (h : Head) (marks : List ℕ) (slot : h .slot ≤ 34) (losses : T (noneOf (λ loss. ltb mostLoss loss) (h .losses))) where
+  small-by : (kind : Kind) (value : List ℕ) → isUnfit kind value ≡ false → hasLarge kind value ≡ false
+      → T (noneOf (λ q. isBeyond mostResult (rounded q)) (quotients h marks kind value))
+  unfolding quotients any
+  small-by consumer value fit large = none-run (λ q. isBeyond mostResult (rounded q)) _ 0 6 λ j hj.
+      no-ltb (consumer-small (lossOf h value) _ _ (loss-small (h .losses) _ losses)
+      (baseline-small (readingsOf consumer value) (tested consumer value large) (testDay h) marks (h .slot) (0 + j) slot (omega arith))
+      (reading-small (readingsOf consumer value) (tested consumer value large) 0 (h .slot + (0 + j)) (omega arith) (omega arith)))
+  small-by generator value fit large = none-run (λ q. isBeyond mostResult (rounded q)) _ 0 6 λ j hj.
+      no-ltb (generator-small (baselineOf value) _ (ltb-false _ _ fit) (tested generator value large (0 + j) (omega arith)))
+  small-by unknown value fit large = tt
 
-      go : (a b : Bool) → ltb (length days) 5 ≡ a → eqb (length left) 5 ≡ b
-          → (length (left ++ drop 5 days) ≤ n → length (walk w n (left ++ drop 5 days)) ≤ 5)
-          → length (cond a days (cond b (take 5 days) (walk w n (left ++ drop 5 days)))) ≤ 5
-      go true b e f r = omega (arith, ltb-true (length days) 5 e)
-      go false true e f r = omega (arith, length-take 5 days)
-      go false false e f r = r (simp (length-append, length-drop)
-          (omega (arith, round-length (take 5 days), length-take 5 days, eqb-false (length left) 5 f, ltb-false (length days) 5 e)))
+six-by : (h : Head) (marks : List ℕ) (kind : Kind) (value : List ℕ) → isUnknown kind ≡ false → length (quotients h marks kind value) ≡ 6
+unfolding quotients
+six-by h marks consumer value e = run-length _ 0 6
+six-by h marks generator value e = run-length _ 0 6
+six-by h marks unknown value e = absurd (true≢false e)
+
+-- a row's test as a fact
+pub failed : (test : Bool) → test ≡ false → T (not test)
+failed test e = rw e tt
+
+pub passed : (test : Bool) → not test ≡ false → T test
+passed test e = rw (not-false test e) tt
+
+-- ---- an accepted opening, an accepted adding
+
+pub content-clear : (h : Head) (marks : List ℕ) → contentRefusal h marks ≡ 0 → Clear (contentTests h marks)
+unfolding contentRefusal
+content-clear h marks e = clear (contentTests h marks) tt e
+
+module _ (h : Head) (marks : List ℕ) (sound : contentRefusal h marks ≡ 0) where
+  pub slot-range : (18 ≤ h .slot) × (h .slot ≤ 34)
+  slot-range =
+      let t = and-yes (leb 18 (h .slot)) _ (passed (leb 18 (h .slot) && leb (h .slot) 34) (content-clear h marks sound .1 .1 .0)) in
+      (leb-yes (t .0), leb-yes (t .1))
+
+  pub losses-small : T (noneOf (λ loss. ltb mostLoss loss) (h .losses))
+  losses-small = failed _ (content-clear h marks sound .1 .1 .1 .0)
+
+module _ (h : Head) (marks : List ℕ) (points : ℕ) (last : List ℕ) (tag : ℕ) (value : List ℕ) (places : ℕ)
+    (accepted : pointRefusal h marks points last tag value places ≡ 0) where
+  pub point-clear : Clear (pointTests h marks points last tag value places)
+  unfolding pointRefusal
+  point-clear = clear (pointTests h marks points last tag value places) tt accepted
+
+  pub six-quotients : length (quotients h marks (kindOf tag) value) ≡ 6
+  six-quotients = six-by h marks (kindOf tag) value (point-clear .1 .0)
+
+  pub six-results : length (results h marks (kindOf tag) value) ≡ 6
+  six-results = simp length-map six-quotients
+
+  -- each slot result is within the limit
+  pub results-small : contentRefusal h marks ≡ 0 → T (noneOf (isBeyond mostResult) (results h marks (kindOf tag) value))
+  results-small e = rw any-map
+      (small-by h marks (slot-range h marks e .1) (losses-small h marks e) (kindOf tag) value
+      (point-clear .1 .1 .1 .1 .1 .1 .0) (point-clear .1 .1 .1 .1 .1 .1 .1 .0))

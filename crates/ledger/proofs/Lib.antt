@@ -1,4 +1,5 @@
 pub mod Examples
 pub mod Lists
 pub mod Rounding
+pub mod Days
 pub mod Bounds
