@@ -90,7 +90,7 @@ module _ (readings : List ℕ) (tested : (i : ℕ) → i < 1488 → word32 readi
 abbrev pub isBeyond : ℕ → ℤ → Bool
 isBeyond most z = ltb most (natAbs z)
 
-loss-small : (losses : List ℕ) (i : ℕ) → T (noneOf (λ loss. ltb mostLoss loss) losses) → getD losses i 0 ≤ mostLoss
+pub loss-small : (losses : List ℕ) (i : ℕ) → T (noneOf (λ loss. ltb mostLoss loss) losses) → getD losses i 0 ≤ mostLoss
 loss-small [] i t = omega arith
 loss-small (loss ∷ losses) zero t = ltb-no (none-cons (λ loss. ltb mostLoss loss) loss losses .0 t .0)
 loss-small (loss ∷ losses) (suc i) t = loss-small losses i (none-cons (λ loss. ltb mostLoss loss) loss losses .0 t .1)

@@ -19,6 +19,10 @@ not-not : (a : Bool) → T (not (not a)) ↔ T a
 not-not true = (λ t. t, λ t. t)
 not-not false = (λ t. t, λ t. t)
 
+pub no-false : (test : Bool) → T (not test) → test ≡ false
+no-false true t = absurd t
+no-false false t = refl
+
 -- ---- no element passes
 
 abbrev pub none {ℓ} : {A : Type ℓ} → (A → Bool) → List A → Bool
