@@ -1,4 +1,5 @@
 pub mod Fields
+pub mod Headers
 pub mod Reading
 pub mod Writing
 pub mod Settling

@@ -1,22 +1,20 @@
 // Cutting a field off the front of what is left of the book.
 ghost use mathlib.Core.Path.{_≡_};
-ghost use mathlib.Core.Bool.{Bool, cond, not};
+ghost use mathlib.Core.Bool.{Bool, cond, not, _&&_};
 ghost use Prim.Native.Nat.{ℕ, _≤_};
-ghost use Rattle.book.specs.Fields.{isTag, isPoint, lengthDue, fieldRefusal, fieldOf, refusalOf};
+ghost use lib.Dec.{eqb};
+ghost use Rattle.book.specs.Fields.{isTag, isPoint, lengthDue, fieldOf, refusalOf};
+ghost use Rattle.book.specs.Headers.{headerRefusal};
 use crate::Due;
 use crate::Field;
-use ledger::refusals;
-
-// The refusals of a whole book that are not those of opening, adding or closing.
-pub const BOOK_CUT: u32 = 31;
-pub const WRONG_TAG: u32 = 41;
+use crate::refusals;
 
 // The number of a field answer.
 pub fn refusal_of(field: Field) -> u32
     ensures { λ r. ⌜ r ≡ refusalOf field ⌝ }
 {
     let Field::Refused(refusal) = field else {
-        return refusals::ACCEPTED;
+        return ledger::refusals::ACCEPTED;
     };
     refusal
 }
@@ -33,7 +31,7 @@ fn is_tag(due: Due, tag: u8) -> bool
 }
 
 // The length that a value must have.
-fn length_due(due: Due, tag: u8) -> usize
+pub fn length_due(due: Due, tag: u8) -> usize
     ensures { λ r. ⌜ (r ≡ lengthDue due tag) × (r ≤ 5975) ⌝ }
 {
     match due {
@@ -43,13 +41,17 @@ fn length_due(due: Due, tag: u8) -> usize
     }
 }
 
-fn is_point(due: Due) -> bool
-    ensures { λ r. ⌜ r ≡ isPoint due ⌝ }
+// Under three bytes left; none where a point is due is a count that is not reached.
+fn short_refusal(due: Due, length: usize) -> u32
+    ensures { λ r. ⌜ r ≡ cond (isPoint due && eqb length 0) 20 31 ⌝ }
 {
+    if length != 0 {
+        return refusals::BOOK_CUT;
+    }
     match due {
-        Due::Head => false,
-        Due::Calendar => false,
-        Due::Point => true,
+        Due::Head => refusals::BOOK_CUT,
+        Due::Calendar => refusals::BOOK_CUT,
+        Due::Point => ledger::refusals::COUNT_NOT_REACHED,
     }
 }
 
@@ -57,9 +59,9 @@ fn tag_refusal(due: Due) -> u32
     ensures { λ r. ⌜ r ≡ cond (isPoint due) 11 41 ⌝ }
 {
     match due {
-        Due::Head => WRONG_TAG,
-        Due::Calendar => WRONG_TAG,
-        Due::Point => refusals::POINT_TAG,
+        Due::Head => refusals::WRONG_TAG,
+        Due::Calendar => refusals::WRONG_TAG,
+        Due::Point => ledger::refusals::POINT_TAG,
     }
 }
 
@@ -67,21 +69,18 @@ fn length_refusal(due: Due) -> u32
     ensures { λ r. ⌜ r ≡ cond (isPoint due) 12 1 ⌝ }
 {
     match due {
-        Due::Head => refusals::HEAD_LENGTH,
-        Due::Calendar => refusals::HEAD_LENGTH,
-        Due::Point => refusals::POINT_LENGTH,
+        Due::Head => ledger::refusals::HEAD_LENGTH,
+        Due::Calendar => ledger::refusals::HEAD_LENGTH,
+        Due::Point => ledger::refusals::POINT_LENGTH,
     }
 }
 
-// What ends the reading at a field: 20, 31, 41 or 11, 1 or 12, 31.
-fn field_refusal(due: Due, left: &[u8]) -> u32
-    ensures { λ r. ⌜ r ≡ fieldRefusal due (now (left .entry)) ⌝ }
+// What ends the reading at a header: 20, 31, 41 or 11, 1 or 12.
+pub fn header_refusal(due: Due, left: &[u8]) -> u32
+    ensures { λ r. ⌜ r ≡ headerRefusal due (now (left .entry)) ⌝ }
 {
-    if left.len() == 0 && is_point(due) {
-        return refusals::COUNT_NOT_REACHED;
-    }
     if left.len() < 3 {
-        return BOOK_CUT;
+        return short_refusal(due, left.len());
     }
     let tag = left[0];
     if !is_tag(due, tag) {
@@ -91,21 +90,21 @@ fn field_refusal(due: Due, left: &[u8]) -> u32
     if numbers::word16_at(left, 1) as usize != size {
         return length_refusal(due);
     }
-    if left.len() < 3 + size {
-        return BOOK_CUT;
-    }
-    refusals::ACCEPTED
+    ledger::refusals::ACCEPTED
 }
 
 // The field answer.
 pub fn cut(due: Due, left: &[u8]) -> Field
     ensures { λ r. ⌜ r ≡ fieldOf due (now (left .entry)) ⌝ }
 {
-    let refusal = field_refusal(due, left);
-    if refusal != refusals::ACCEPTED {
+    let refusal = header_refusal(due, left);
+    if refusal != ledger::refusals::ACCEPTED {
         return Field::Refused(refusal);
     }
     let tag = left[0];
     let size = length_due(due, tag);
+    if left.len() < 3 + size {
+        return Field::Refused(refusals::BOOK_CUT);
+    }
     Field::Value(tag, size)
 }

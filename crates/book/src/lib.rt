@@ -1,4 +1,5 @@
 pub mod fields;
+pub mod refusals;
 
 // Which field is due at a place of the book.
 pub enum Due {
