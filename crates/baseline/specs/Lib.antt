@@ -1,3 +1,4 @@
 pub mod Readings
 pub mod Choosing
 pub mod Baseline
+pub mod Days

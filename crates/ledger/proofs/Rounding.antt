@@ -20,19 +20,7 @@ use Rattle.numbers.proofs.Differences.{by⊖, ⊖s}
 use Rattle.numbers.proofs.Floors.{rest, rest-<, rest-is, divides-rest}
 use Rattle.ledger.specs.Points.{Quotient, rounded}
 use Rattle.ledger.specs.Figures.{settledOf, shortfallOf}
-
--- ---- a test of every element
-
-abbrev pub every {ℓ} : {A : Type ℓ} → (A → Bool) → List A → Bool
-every test xs = not (any (λ x. not (test x)) xs)
-
-both : (a b : Bool) → T (not (not a || b)) ↔ (T a × T (not b))
-both true b = (λ t. (tt, t), λ t. t .1)
-both false b = (λ t. absurd t, λ t. absurd (t .0))
-
-pub every-cons : {A : Type 0} (test : A → Bool) (x : A) (xs : List A) → T (every test (x ∷ xs)) ↔ (T (test x) × T (every test xs))
-unfolding any
-every-cons test x xs = both (test x) (any (λ x. not (test x)) xs)
+use Rattle.ledger.proofs.Lists.{every, every-cons}
 
 -- a quotient is whole
 abbrev pub whole : Quotient → Bool
@@ -153,20 +141,22 @@ compare false true false wh n r x y e p l k f z i j = more wh n r x y e p l k f 
 compare false false even wh n r x y e p l k f z i j = more wh n r x y e p l k f (λ q. z .1 q) (λ q. i .0 (q .0))
 
 -- THE COMPARISON, for any n points with six quotients each
-pub compared : (wh n contract : ℕ) → 0 < wh → (qs : List Quotient) → T (every (goesInto wh) qs) → length qs ≡ 6 * n
+pub compared : (wh kW watt n contract : ℕ) → 0 < wh → 3_000 * wh ≡ kW → 3 * wh ≡ watt → (qs : List Quotient) → T (every (goesInto wh) qs) → length qs ≡ 6 * n
     → let total = sumℤ (map rounded qs) in
-    Compared (3_000 * wh) (3 * wh) n
+    Compared kW watt n
     (shortfallOf contract (settledOf total))
-    (orZero (pos (contract * (3_000 * wh)) -ℤ sumℤ (map (inParts wh) qs)))
+    (orZero (pos (contract * kW) -ℤ sumℤ (map (inParts wh) qs)))
     (leZ (pos contract) (settledOf total) || every whole qs && divides 3_000 total)
-compared wh n c p qs g l =
+compared wh kW watt n c p e f qs g l =
     let a = all-above wh p qs g in
     let t = sumℤ (map rounded qs) in
     let s = settledOf t in
     let w = divides-rest 3_000 t (omega arith) in
     let z = shortfall-zero c s in
-    compare (leZ (pos c) s) (every whole qs) (divides 3_000 t) wh n (rest t 3_000) (a .parts) _ _ p (rest-< t 3_000 (omega arith))
+    rw (← e, ← f)
+    (compare (leZ (pos c) s) (every whole qs) (divides 3_000 t) wh n (rest t 3_000) (a .parts) _ _ p (rest-< t 3_000 (omega arith))
     (rw (← l) (le-trans (le-add-right _ _) (a .most)))
     (exact-is wh c (rest t 3_000) (a .parts) s t _ (rest-is t 3_000 (omega arith)) (a .is))
     (λ h. z .0 (leZ-yes h), λ e. z .1 e .le)
-    (a .none) (w .1, w .0)
+    (a .none)
+    (w .1, w .0))

@@ -1,0 +1,5 @@
+pub mod Rising
+pub mod Flags
+pub mod Keeping
+pub mod Rounds
+pub mod Lowest

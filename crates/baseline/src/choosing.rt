@@ -1,0 +1,50 @@
+// Choosing four days. A day is its number back; the window sum of day k stands at place k - 1 of `sums`.
+ghost use mathlib.Core.Path.{_≡_};
+ghost use mathlib.Core.Bool.{not};
+ghost use mathlib.Core.List.{_∷_, []};
+ghost use Prim.Native.Nat.{ℕ, _≤_, _*_};
+ghost use lib.Dec.{ltb, eqb};
+ghost use lib.ListN.{length, getD, drop};
+ghost use Rattle.numbers.specs.Lists.{filter};
+ghost use Rattle.calendar.specs.Eligible.{ofDay};
+ghost use Rattle.baseline.specs.Choosing.{standing, lowest, chosen};
+ghost use Rattle.baseline.specs.Days.{daysFrom, Rising, Holds, choice};
+
+// The four days, nearest first, or four zeros where there are not enough.
+pub struct Chosen {
+    pub enough: bool,
+    pub days: [usize; 4],
+}
+
+// The days of a round, nearest first: the first `count` of `days`, and their window sums together.
+struct Round {
+    days: [usize; 5],
+    count: usize,
+    all: u64,
+}
+
+// Of five days, those that a round does not drop; all five tests use the same five sums together.
+fn keep(days: [usize; 5], sums: &[u64], all: u64) -> Round
+    requires { ⌜ (length (now sums) ≡ 30) × ((k : ℕ) → getD (now sums) k 0 ≤ 6000000000) × Rising 0 30 days ⌝ }
+    ensures { λ r. ⌜ Holds (ofDay (now (sums .entry))) (filter (λ k. not (ltb (ofDay (now (sums .entry)) k * 20) all)) days) r ⌝ }
+{
+    let mut kept = [0usize; 5];
+    let mut count: usize = 0;
+    let mut left: u64 = 0;
+    let mut i: usize = 0;
+    while i < 5 {
+        let day = days[i];
+        let sum = sums[day - 1];
+        if all <= sum * 20 {
+            kept[count] = day;
+            count += 1;
+            left += sum;
+        }
+        i += 1;
+    }
+    Round {
+        days: kept,
+        count,
+        all: left,
+    }
+}

@@ -1,0 +1,251 @@
+-- Sound states: what opening gives is one, adding keeps it, and 9 never comes along a run of calls. Assumes nothing.
+use mathlib.Core.Path.{_≡_, refl, sym, _∙_, ap}
+use mathlib.Core.Logic.{_↔_}
+use mathlib.Core.Bool.{Bool, true, false, cond, not, _&&_, _||_, true≢false}
+use mathlib.Core.List.{List, [], _∷_}
+use Prim.Native.Nat.{ℕ, zero, suc, _+_, _*_, _<_, _≤_}
+use native.Mathlib.Decide.{ℕ-discrete}
+use native.Mathlib.Omega.{arith}
+use lib.Dec.{T, leb, ltb, eqb}
+use lib.IntN.{ℤ, pos, natAbs, _+ℤ_}
+use lib.ListN.{length}
+use mir.Facts.{and-yes, or-no, ltb-no, no-ltb, eqb-yes, no-eqb}
+use borrow.Author.Tests.{eqb-true, eqb-false, eq-eqb, ne-eqb, leb-false, not-false}
+use Rattle.numbers.specs.Lists.{any}
+use Rattle.numbers.specs.Refusals.{firstOf}
+use Rattle.numbers.specs.PointNumbers.{isNumber}
+use Rattle.numbers.proofs.Differences.{natAbs-+ℤ}
+use Rattle.numbers.proofs.Refusals.{Clear, clear, clear-zero}
+use Rattle.calendar.specs.Dates.{isDate}
+use Rattle.ledger.specs.Limits.{mostResult}
+use Rattle.ledger.specs.Heads.{headOf, contentTests, contentRefusal, openingRefusal}
+use Rattle.ledger.specs.Points.{kindOf, numberOf, results}
+use Rattle.ledger.specs.States.{opened, noState, isUnsound, plus, taken}
+use Rattle.ledger.specs.Figures.{figuresOf, noFigures}
+use Rattle.ledger.specs.Operations.{openOf, pointTests, pointRefusal, addingRefusal, resultsOf, addOf, closingRefusal, closeOf}
+use Rattle.ledger.specs.Account.{Call, adding, closing}
+use Rattle.ledger.specs.Demand3.{Reply, refused, accepted, closed, replyOf, replies, program}
+use Rattle.ledger.specs.declared.Head.{Head}
+use Rattle.ledger.specs.declared.State.{State}
+use Rattle.ledger.specs.declared.Opened.{Opened}
+use Rattle.ledger.specs.declared.Added.{Added}
+use Rattle.ledger.specs.declared.Closed.{Closed}
+use Rattle.ledger.proofs.Lists.{none, none-cons, no-false}
+use Rattle.ledger.proofs.Bounds.{isBeyond, failed, passed, point-clear, results-small}
+
+-- ---- the answers of the operations, by the refusal
+
+told : {A : Type 0} (refusal : A → ℕ) (n : ℕ) (good bad : A) → refusal good ≡ 0 → refusal bad ≡ n → refusal (cond (eqb n 0) good bad) ≡ n
+told {A} refusal n good bad p q = go (eqb n 0) refl
+  where
+    go : (t : Bool) → eqb n 0 ≡ t → refusal (cond t good bad) ≡ n
+    go true e = p ∙ sym (eqb-true n 0 e)
+    go false e = q
+
+module _ (head calendar : List ℕ) where
+  pub open-refusal : openOf head calendar .refusal ≡ openingRefusal head calendar
+  unfolding openOf
+  open-refusal = told {A = Opened} (λ o. o .refusal) (openingRefusal head calendar) _ _ refl refl
+
+  pub open-good : openingRefusal head calendar ≡ 0 → openOf head calendar ≡ record { refusal = 0; state = opened (headOf head) calendar }
+  unfolding openOf
+  open-good e = simp (eq-eqb _ _ e)
+
+  pub open-bad : (openingRefusal head calendar ≡ 0 → ⊥) → openOf head calendar ≡ record { refusal = openingRefusal head calendar; state = noState }
+  unfolding openOf
+  open-bad n = simp (ne-eqb _ _ n)
+
+module _ (state : State) (tag : ℕ) (value : List ℕ) (places : ℕ) where
+  pub add-refusal : addOf state tag value places .refusal ≡ addingRefusal state tag value places
+  unfolding addOf
+  add-refusal = told {A = Added} (λ a. a .refusal) (addingRefusal state tag value places) _ _ refl refl
+
+  pub add-good : addingRefusal state tag value places ≡ 0
+      → addOf state tag value places ≡ record { refusal = 0; state = taken state (resultsOf state tag value) (numberOf value) }
+  unfolding addOf
+  add-good e = simp (eq-eqb _ _ e)
+
+  -- a refused adding leaves the state
+  pub add-bad : (addingRefusal state tag value places ≡ 0 → ⊥)
+      → addOf state tag value places ≡ record { refusal = addingRefusal state tag value places; state = state }
+  unfolding addOf
+  add-bad n = simp (ne-eqb _ _ n)
+
+module _ (state : State) where
+  pub close-refusal : closeOf state .refusal ≡ closingRefusal state
+  unfolding closeOf
+  close-refusal = told {A = Closed} (λ c. c .refusal) (closingRefusal state) _ _ refl refl
+
+  pub close-good : closingRefusal state ≡ 0
+      → closeOf state ≡ record { refusal = 0; figures = figuresOf (state .head .contract) (state .totals) (state .points) }
+  unfolding closeOf
+  close-good e = simp (eq-eqb _ _ e)
+
+  pub close-bad : (closingRefusal state ≡ 0 → ⊥) → closeOf state ≡ record { refusal = closingRefusal state; figures = noFigures }
+  unfolding closeOf
+  close-bad n = simp (ne-eqb _ _ n)
+
+-- ---- a sound state, fact by fact
+
+pub record Sound (state : State) : Type 0 where
+  pub content : contentRefusal (state .head) (state .marks) ≡ 0
+  pub room : state .points ≤ state .head .count
+  pub totals : T (none (isBeyond (mostResult * state .points)) (state .totals))
+  pub last : T (not (ltb 0 (state .points) && not (isNumber (state .last))))
+
+no-row : (a b c d : Bool) → (a || b || c || d ≡ false) ↔ ((a ≡ false) × T (not b) × T (not c) × T (not d))
+no-row true b c d = (λ e. absurd (true≢false e), λ t. t .0)
+no-row false true c d = (λ e. absurd (true≢false e), λ t. absurd (t .1))
+no-row false false true d = (λ e. absurd (true≢false e), λ t. absurd (t .2))
+no-row false false false d = (λ e. (refl, tt, tt, rw e tt), λ t. no-false d (t .3))
+
+module _ (state : State) where
+  rows : (isUnsound state ≡ false) ↔ ((not (eqb (contentRefusal (state .head) (state .marks)) 0) ≡ false)
+      × T (not (ltb (state .head .count) (state .points)))
+      × T (none (isBeyond (mostResult * state .points)) (state .totals))
+      × T (not (ltb 0 (state .points) && not (isNumber (state .last)))))
+  unfolding isUnsound
+  rows = no-row (not (eqb (contentRefusal (state .head) (state .marks)) 0)) (ltb (state .head .count) (state .points))
+      (any (isBeyond (mostResult * state .points)) (state .totals)) (ltb 0 (state .points) && not (isNumber (state .last)))
+
+  pub sound : isUnsound state ≡ false → Sound state
+  sound e = let r = rows .0 e in record { content = eqb-true _ _ (not-false _ (r .0)); room = ltb-no (r .1); totals = r .2; last = r .3 }
+
+  pub sound-is : Sound state → isUnsound state ≡ false
+  sound-is s = rows .1 (rw (s .content) refl, no-ltb (s .room), s .totals, s .last)
+
+-- ---- along a run
+
+module _ (head calendar : List ℕ) (accepted : openingRefusal head calendar ≡ 0) where
+  opening-clear : Clear ((not (eqb (length head) 17 && eqb (length calendar) 30), 1) ∷ contentTests (headOf head) calendar)
+  unfolding openingRefusal
+  opening-clear = clear ((not (eqb (length head) 17 && eqb (length calendar) 30), 1) ∷ contentTests (headOf head) calendar) tt accepted
+
+  pub opening-lengths : (length head ≡ 17) × (length calendar ≡ 30)
+  opening-lengths =
+      let t = and-yes (eqb (length head) 17) (eqb (length calendar) 30) (passed (eqb (length head) 17 && eqb (length calendar) 30) (opening-clear .0)) in
+      (eqb-yes (t .0), eqb-yes (t .1))
+
+  pub opening-content : contentRefusal (headOf head) calendar ≡ 0
+  unfolding contentRefusal
+  opening-content = clear-zero (contentTests (headOf head) calendar) (opening-clear .1)
+
+  pub opened-sound : Sound (opened (headOf head) calendar)
+  unfolding any
+  opened-sound = record { content = opening-content; room = omega arith; totals = tt; last = tt }
+
+plus-small : (k l : ℕ) (xs ys : List ℤ) → T (none (isBeyond k) xs) → T (none (isBeyond l) ys) → T (none (isBeyond (k + l)) (plus xs ys))
+unfolding plus any
+plus-small k l [] ys p q = tt
+plus-small k l (x ∷ xs) [] p q = tt
+plus-small k l (x ∷ xs) (y ∷ ys) p q =
+    let f = none-cons (isBeyond k) x xs .0 p in
+    let g = none-cons (isBeyond l) y ys .0 q in
+    none-cons (isBeyond (k + l)) (x +ℤ y) (plus xs ys) .1
+    (no-ltb (natAbs-+ℤ k l x y (ltb-no (f .0)) (ltb-no (g .0))), plus-small k l xs ys (f .1) (g .1))
+
+shown : (some number : Bool) → T number → T (not (some && not number))
+shown true true t = tt
+shown true false t = absurd t
+shown false number t = tt
+
+module _ (state : State) (s : Sound state) (tag : ℕ) (value : List ℕ) (places : ℕ) where
+  -- the refusals of a sound state are those of the account
+  pub adding-sound : addingRefusal state tag value places ≡ pointRefusal (state .head) (state .marks) (state .points) (state .last) tag value places
+  unfolding addingRefusal pointRefusal
+  adding-sound = rw (sound-is state s)
+
+  pub taken-sound : pointRefusal (state .head) (state .marks) (state .points) (state .last) tag value places ≡ 0
+      → Sound (taken state (resultsOf state tag value) (numberOf value))
+  unfolding taken
+  taken-sound e =
+      let more : mostResult * (state .points + 1) ≡ mostResult * state .points + mostResult = omega arith in
+      let c = point-clear (state .head) (state .marks) (state .points) (state .last) tag value places e in
+      record {
+        content = s .content;
+        room = omega (arith, leb-false (state .head .count) (state .points) (c .0));
+        totals = rw more (plus-small (mostResult * state .points) mostResult (state .totals) (resultsOf state tag value) (s .totals)
+            (results-small (state .head) (state .marks) (state .points) (state .last) tag value places e (s .content)));
+        last = shown (ltb 0 (state .points + 1)) (isNumber (numberOf value)) (passed (isNumber (numberOf value)) (c .1 .1 .1 .1 .0));
+      }
+
+  -- adding keeps it
+  pub add-sound : Sound (addOf state tag value places .state)
+  add-sound = go (ℕ-discrete (addingRefusal state tag value places) 0)
+    where
+      go : Dec (addingRefusal state tag value places ≡ 0) → Sound (addOf state tag value places .state)
+      go (yes e) = rw (add-good state tag value places e) (taken-sound (sym adding-sound ∙ e))
+      go (no n) = rw (add-bad state tag value places n) s
+
+pub closing-sound : (state : State) → Sound state → closingRefusal state ≡ cond (ltb (state .points) (state .head .count)) 20 0
+unfolding closingRefusal
+closing-sound state s = rw (sound-is state s)
+
+-- the state of zeros, which a refused opening gives, is not sound
+pub nothing-unsound : isUnsound noState ≡ true
+unfolding isUnsound contentRefusal isDate
+nothing-unsound = refl
+
+pub nothing-taken : (tag : ℕ) (value : List ℕ) (places : ℕ) → addingRefusal noState tag value places ≡ 9
+unfolding addingRefusal
+nothing-taken tag value places = rw nothing-unsound
+
+pub nothing-closed : closingRefusal noState ≡ 9
+unfolding closingRefusal
+nothing-closed = rw nothing-unsound
+
+-- ---- 9 never comes after an accepted opening
+
+abbrev pub tellsNine : Reply → Bool
+tellsNine (refused refusal) = eqb refusal 9
+tellsNine accepted = false
+tellsNine (closed figures) = false
+
+never-told : (n : ℕ) (table : List (Bool × ℕ)) → 0 < n → T (none (λ row. eqb (row .1) n) table) → T (not (eqb (firstOf table) n))
+never-told n [] h t = no-eqb (λ (e : 0 ≡ n). omega arith)
+never-told n (row ∷ table) h t = go (row .0) (none-cons (λ row. eqb (row .1) n) row table .0 t) (never-told n table h)
+  where
+    go : (b : Bool) → T (not (eqb (row .1) n)) × T (none (λ row. eqb (row .1) n) table)
+        → (T (none (λ row. eqb (row .1) n) table) → T (not (eqb (firstOf table) n))) → T (not (eqb (cond b (row .1) (firstOf table)) n))
+    go true p f = p .0
+    go false p f = f (p .1)
+
+point-not-nine : (h : Head) (marks : List ℕ) (points : ℕ) (last : List ℕ) (tag : ℕ) (value : List ℕ) (places : ℕ)
+    → T (not (eqb (pointRefusal h marks points last tag value places) 9))
+unfolding pointRefusal any
+point-not-nine h marks points last tag value places = never-told 9 (pointTests h marks points last tag value places) (omega arith) tt
+
+module _ (state : State) (s : Sound state) where
+  add-not-nine : (tag : ℕ) (value : List ℕ) (places : ℕ) → T (not (eqb (addOf state tag value places .refusal) 9))
+  add-not-nine tag value places = rw (add-refusal, adding-sound state s tag value places) (point-not-nine _ _ _ _ tag value places)
+
+  close-not-nine : T (not (eqb (closeOf state .refusal) 9))
+  close-not-nine = rw (close-refusal, closing-sound state s) (go (ltb (state .points) (state .head .count)))
+    where
+      go : (b : Bool) → T (not (eqb (cond b 20 0) 9))
+      go true = tt
+      go false = tt
+
+reply-not-nine : (n : ℕ) (reply : Reply) → T (not (tellsNine reply)) → T (not (eqb n 9)) → T (not (tellsNine (replyOf n reply)))
+reply-not-nine n reply p q = go (eqb n 0)
+  where
+    go : (t : Bool) → T (not (tellsNine (cond t reply (refused n))))
+    go true = p
+    go false = q
+
+replies-not-nine : (calls : List Call) (state : State) → Sound state → T (none tellsNine (replies state calls))
+unfolding replies any
+replies-not-nine [] state s = tt
+replies-not-nine (adding tag value places ∷ calls) state s =
+    let added = addOf state tag value places in
+    none-cons tellsNine (replyOf (added .refusal) accepted) (replies (added .state) calls) .1
+    (reply-not-nine (added .refusal) accepted tt (add-not-nine state s tag value places), replies-not-nine calls (added .state) (add-sound state s tag value places))
+replies-not-nine (closing ∷ calls) state s =
+    let reply = closed (closeOf state .figures) in
+    none-cons tellsNine (replyOf (closeOf state .refusal) reply) (replies state calls) .1
+    (reply-not-nine (closeOf state .refusal) reply tt (close-not-nine state s), replies-not-nine calls state s)
+
+pub never-nine : (head calendar : List ℕ) → openingRefusal head calendar ≡ 0 → (calls : List Call) → T (none tellsNine (program head calendar calls))
+unfolding program
+never-nine head calendar e calls = rw (open-good head calendar e)
+    (none-cons tellsNine accepted (replies (opened (headOf head) calendar) calls) .1 (tt, replies-not-nine calls _ (opened-sound head calendar e)))
