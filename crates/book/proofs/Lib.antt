@@ -1,2 +1,5 @@
 pub mod Headers
 pub mod Cutting
+pub mod Readings
+pub mod RoundTrips
+pub mod Figures
