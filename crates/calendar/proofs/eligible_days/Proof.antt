@@ -1,58 +1,67 @@
+-- `calendar::eligible_days` meets its contract. The loop's invariant: the places before `k` are filled. Assumes nothing.
+use mathlib.Core.Path.{_≡_, refl, _∙_}
+use mathlib.Core.Bool.{false}
+use Prim.Native.Nat.{_≤_, _-_}
+use native.Mathlib.Nat.{add-comm, add-sub-cancel-left}
+use native.Mathlib.Omega.{arith}
+use lib.ListN.{length, length-set, replicate}
+use borrow.Author.Needs.{needs}
+use Rattle.numbers.specs.Lists.{run}
+use Rattle.calendar.specs.Eligible.{isEligible}
+use Rattle.numbers.proofs.Filling.{front, fill-more, fill-all}
 use Rattle.calendar.proofs.eligible_days.Statement.{statement}
 use Rattle.calendar.proofs.eligible_days.Tie as tie
-use Rattle.calendar.proofs.eligible_days.Reads as reads
-use Rattle.calendar.proofs.eligible_days.Lts as lts
-use Rattle.calendar.proofs.is_eligible.Reads as is-eligible-reads
 
 abbrev Inv-loop : tie.InvT-loop
-Inv-loop test marks days₀ k₀ days k = ?
+Inv-loop test marks days₀ k₀ days k =
+    (k ≤ 30) × (length days ≡ 30) × (days ≡ front (replicate 30 false) (run (isEligible test marks) 1 30) k)
 
 abbrev μ-loop : tie.MeasureT-loop
-μ-loop test marks days₀ k₀ days k = ?
+μ-loop test marks days₀ k₀ days k = 30 - k
 
--- src/lib.rt:127:5
 loop-holds : tie.Need-loop-holds Inv-loop μ-loop
-loop-holds c = ?
+loop-holds c = (search needs, search needs, refl)
 
--- src/lib.rt:128:39
 add-is-eligible : tie.Need-add-is-eligible Inv-loop μ-loop
-add-is-eligible c = ?
+add-is-eligible c = search needs
 
--- src/lib.rt:128:38
 cast-is-eligible : tie.Need-cast-is-eligible Inv-loop μ-loop
-cast-is-eligible c = ?
+cast-is-eligible c = search needs
 
--- src/lib.rt:128:31
 sub-is-eligible : tie.Need-sub-is-eligible Inv-loop μ-loop
-sub-is-eligible c = ?
+sub-is-eligible c = search needs
 
--- src/lib.rt:128:54
 array-read-is-eligible : tie.Need-array-read-is-eligible Inv-loop μ-loop
-array-read-is-eligible c = ?
+array-read-is-eligible c = search needs
 
--- src/lib.rt:128:19
 is-eligible-requires : tie.Need-is-eligible-requires Inv-loop μ-loop
-is-eligible-requires c κs = ?
+is-eligible-requires c κs = search needs
 
--- src/lib.rt:128:9
 array-write-days : tie.Need-array-write-days Inv-loop μ-loop
-array-write-days c = ?
+array-write-days c = search needs
 
--- src/lib.rt:129:9
 add-k : tie.Need-add-k Inv-loop μ-loop
-add-k c = ?
+add-k c = search needs
 
--- src/lib.rt:127:5
 loop-less : tie.Need-loop-less Inv-loop μ-loop
-loop-less c = ?
+loop-less c = search needs
 
--- src/lib.rt:127:5
 loop-again : tie.Need-loop-again Inv-loop μ-loop
-loop-again c = ?
+loop-again c =
+    let a = c .before .before .before .args in
+    let l = c .before .before .loop in (
+      omega arith,
+      length-set (l .days) _ _ ∙ l .inv .1,
+      rw (l .inv .2)
+          (fill-more (replicate 30 false) (isEligible (a .test) (a .t2)) 1 30 refl (l .k) false _ (omega arith)
+          (c .is-eligible .ensures ∙ cc (add-comm (l .k) 1, add-sub-cancel-left 1 (l .k)))),
+    )
 
--- src/lib.rt:121:1
 returns : tie.Need-returns Inv-loop μ-loop
-returns c = ?
+returns c =
+    let a = c .before .before .args in
+    let l = c .before .loop in
+    l .inv .2 ∙ fill-all (replicate 30 false) (isEligible (a .test) (a .t2)) 1 30 refl (l .k) (omega arith)
 
 pub eligible-days-spec : {M : Type 1} → statement M
 eligible-days-spec =

@@ -1,46 +1,62 @@
+-- `calendar::has_unknown_mark` meets its contract. The loop's invariant: what is left of the marks decides. Assumes nothing.
+use mathlib.Core.Path.{_≡_, refl, _∙_, sym}
+use mathlib.Core.Bool.{Bool, not}
+use Prim.Native.Nat.{ℕ, _≤_, _-_}
+use native.Mathlib.Omega.{arith}
+use native.Mathlib.Numerals.{add-one}
+use lib.ListN.{length, drop, drop-of-length-le}
+use lib.Seq.{drop-cons}
+use borrow.Author.Needs.{needs}
+use Rattle.numbers.specs.Lists.{any}
+use Rattle.calendar.specs.Eligible.{isMark}
 use Rattle.calendar.proofs.has_unknown_mark.Statement.{statement}
 use Rattle.calendar.proofs.has_unknown_mark.Tie as tie
-use Rattle.calendar.proofs.has_unknown_mark.Reads as reads
-use Rattle.calendar.proofs.has_unknown_mark.Lts as lts
-use Rattle.calendar.proofs.is_mark.Reads as is-mark-reads
+
+abbrev unknown : ℕ → Bool
+unknown mark = not (isMark mark)
 
 abbrev Inv-loop : tie.InvT-loop
-Inv-loop marks k₀ k = ?
+Inv-loop marks k₀ k = (k ≤ length marks) × (any unknown marks ≡ any unknown (drop k marks))
 
 abbrev μ-loop : tie.MeasureT-loop
-μ-loop marks k₀ k = ?
+μ-loop marks k₀ k = length marks - k
 
--- src/lib.rt:104:5
 loop-holds : tie.Need-loop-holds Inv-loop μ-loop
-loop-holds c = ?
+loop-holds c = (search needs, refl)
 
--- src/lib.rt:105:21
 shared-slice-read-is-mark : tie.Need-shared-slice-read-is-mark Inv-loop μ-loop
-shared-slice-read-is-mark c = ?
+shared-slice-read-is-mark c = search needs
 
--- src/lib.rt:105:13
 is-mark-requires : tie.Need-is-mark-requires Inv-loop μ-loop
-is-mark-requires c κs = ?
+is-mark-requires c κs = search needs
 
--- src/lib.rt:106:13
 returns : tie.Need-returns Inv-loop μ-loop
-returns c = ?
+unfolding any
+returns c =
+    let marks = c .before .before .before .before .before .before .args .marks .now in
+    let l = c .before .before .before .before .loop in
+    let here = drop-cons {A = ℕ} marks (l .k) 0 (omega arith) in
+    sym (l .inv .1 ∙ rw (here, ← c .before .is-mark .ensures, c .if1 .taken))
 
--- src/lib.rt:108:9
 add-k : tie.Need-add-k Inv-loop μ-loop
-add-k c = ?
+add-k c = search needs
 
--- src/lib.rt:104:5
 loop-less : tie.Need-loop-less Inv-loop μ-loop
-loop-less c = ?
+loop-less c = search needs
 
--- src/lib.rt:104:5
 loop-again : tie.Need-loop-again Inv-loop μ-loop
-loop-again c = ?
+unfolding any
+loop-again c =
+    let marks = c .before .before .before .before .before .before .args .marks .now in
+    let l = c .before .before .before .before .loop in
+    let here = drop-cons {A = ℕ} marks (l .k) 0 (omega arith) in
+    (omega arith, l .inv .1 ∙ rw (here, ← c .before .is-mark .ensures, c .if1 .left, add-one))
 
--- src/lib.rt:100:1
 returns-2 : tie.Need-returns-2 Inv-loop μ-loop
-returns-2 c = ?
+unfolding any
+returns-2 c =
+    let marks = c .before .before .before .args .marks .now in
+    sym (c .before .loop .inv .1 ∙ rw (drop-of-length-le {A = ℕ} marks {i = c .before .loop .k} (omega arith)))
 
 pub has-unknown-mark-spec : {M : Type 1} → statement M
 has-unknown-mark-spec =

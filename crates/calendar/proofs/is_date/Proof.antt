@@ -1,37 +1,45 @@
+-- `calendar::is_date` meets its contract: each way out that refuses has a part that no date has. Assumes nothing.
+use mathlib.Core.Path.{sym, _∙_}
+use native.Mathlib.Omega.{arith}
 use borrow.Author.Needs.{needs}
+use borrow.Author.Tests.{le-leb, lt-leb}
+use Rattle.calendar.specs.Dates.{isDate}
+use Rattle.calendar.proofs.Dates.{not-date}
 use Rattle.calendar.proofs.is_date.Statement.{statement}
 use Rattle.calendar.proofs.is_date.Tie as tie
-use Rattle.calendar.proofs.is_date.Reads as reads
-use Rattle.calendar.proofs.is_date.Lts as lts
-use Rattle.calendar.proofs.days_in.Reads as days-in-reads
 
--- src/lib.rt:54:42
 days-in-requires : tie.Need-days-in-requires
 days-in-requires c κs = search needs
 
--- src/lib.rt:49:1
 returns : tie.Need-returns
-returns c = ?
+unfolding isDate
+returns c =
+    let a = c .before .before .before .before .before .before .args in
+    let year = a .year in
+    let month = a .month in
+    simp (
+      le-leb 2020 year (omega arith),
+      le-leb year 2099 (omega arith),
+      le-leb 1 month (omega arith),
+      le-leb month 12 (omega arith),
+      le-leb 1 (a .day) (omega arith),
+      c .days-in .ensures,
+    )
 
--- src/lib.rt:49:1
 returns-2 : tie.Need-returns-2
-returns-2 c = ?
+returns-2 c = lt-leb _ _ (c .if5 .left) ∙ sym (not-date _ _ _ λ p. omega arith)
 
--- src/lib.rt:49:1
 returns-3 : tie.Need-returns-3
-returns-3 c = ?
+returns-3 c = sym (not-date _ _ _ λ p. omega arith)
 
--- src/lib.rt:49:1
 returns-4 : tie.Need-returns-4
-returns-4 c = ?
+returns-4 c = sym (not-date _ _ _ λ p. omega arith)
 
--- src/lib.rt:49:1
 returns-5 : tie.Need-returns-5
-returns-5 c = ?
+returns-5 c = sym (not-date _ _ _ λ p. omega arith)
 
--- src/lib.rt:49:1
 returns-6 : tie.Need-returns-6
-returns-6 c = ?
+returns-6 c = sym (not-date _ _ _ λ p. omega arith)
 
 pub is-date-spec : {M : Type 1} → statement M
 is-date-spec =
