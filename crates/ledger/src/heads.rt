@@ -87,3 +87,49 @@ fn is_count(count: u32) -> bool
         _ => false,
     }
 }
+// What opening refuses in the values of a head and a calendar, 2 to 8. It is also asked of a state's contents.
+pub fn content_refusal(head: Head, marks: [u8; 30]) -> u32
+    ensures { λ r. ⌜ r ≡ contentRefusal head marks ⌝ }
+{
+    let year = head.year;
+    let month = head.month;
+    let day = head.day;
+    if !calendar::is_date(year, month, day) {
+        return refusals::NO_SUCH_DATE;
+    }
+    let test = calendar::day_count(year, month, day);
+    if calendar::is_weekend(test) {
+        return refusals::WEEKEND;
+    }
+    if !is_window_slot(head.slot) {
+        return refusals::WINDOW_SLOT;
+    }
+    let losses = head.losses;
+    if has_large_loss(losses) {
+        return refusals::LOSS;
+    }
+    if !is_contract(head.contract) {
+        return refusals::CONTRACT;
+    }
+    if !is_count(head.count) {
+        return refusals::COUNT;
+    }
+    if calendar::has_unknown_mark(&marks) {
+        return refusals::MARK;
+    }
+    refusals::ACCEPTED
+}
+
+// What opening refuses in the bytes of a head and a calendar, 1 to 8.
+pub fn opening_refusal(head: &[u8], calendar: &[u8]) -> u32
+    ensures { λ r. ⌜ r ≡ openingRefusal (now (head .entry)) (now (calendar .entry)) ⌝ }
+{
+    if head.len() != 17 {
+        return refusals::HEAD_LENGTH;
+    }
+    if calendar.len() != 30 {
+        return refusals::HEAD_LENGTH;
+    }
+    let marks = marks_of(calendar);
+    content_refusal(head_of(head), marks)
+}

@@ -58,3 +58,30 @@ fn has_beyond(totals: [i64; 6], most: u64) -> bool
     }
     false
 }
+
+// The size that one slot result may have.
+const MOST_RESULT: u64 = 4000000000;
+
+// Refusal 9: a state that no opening or adding can have given.
+pub fn is_unsound(state: State) -> bool
+    ensures { λ r. ⌜ r ≡ isUnsound state ⌝ }
+{
+    let head = state.head;
+    let marks = state.marks;
+    if heads::content_refusal(head, marks) != 0 {
+        return true;
+    }
+    let points = state.points;
+    if head.count < points {
+        return true;
+    }
+    let totals = state.totals;
+    if has_beyond(totals, MOST_RESULT * (points as u64)) {
+        return true;
+    }
+    if points == 0 {
+        return false;
+    }
+    let last = state.last;
+    !numbers::is_number(&last)
+}
