@@ -3,3 +3,4 @@ pub mod Cutting
 pub mod Readings
 pub mod RoundTrips
 pub mod Figures
+pub mod Storing

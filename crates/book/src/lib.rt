@@ -1,5 +1,6 @@
 pub mod fields;
 pub mod refusals;
+pub mod writing;
 
 // Which field is due at a place of the book.
 pub enum Due {
