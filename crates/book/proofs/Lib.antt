@@ -4,3 +4,4 @@ pub mod Readings
 pub mod RoundTrips
 pub mod Figures
 pub mod Storing
+pub mod Endings

@@ -2,5 +2,6 @@ pub mod Fields
 pub mod Headers
 pub mod Reading
 pub mod Writing
+pub mod Endings
 pub mod Settling
 pub mod Demand2
