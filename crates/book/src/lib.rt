@@ -1,6 +1,7 @@
 pub mod fields;
 pub mod refusals;
 pub mod writing;
+
 use ledger::State;
 
 // Which field is due at a place of the book.
