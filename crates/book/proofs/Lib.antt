@@ -5,3 +5,4 @@ pub mod RoundTrips
 pub mod Figures
 pub mod Storing
 pub mod Endings
+pub mod Results

@@ -4,4 +4,5 @@ pub mod Reading
 pub mod Writing
 pub mod Endings
 pub mod Settling
+pub mod Results
 pub mod Demand2

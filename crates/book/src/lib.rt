@@ -1,5 +1,6 @@
 pub mod fields;
 pub mod refusals;
+pub mod settling;
 pub mod writing;
 
 use ledger::State;

@@ -1,0 +1,56 @@
+-- The result bytes: words of eight bytes, one after the other, byte by byte. Assumes nothing.
+use mathlib.Core.Path.{_≡_, refl, sym, ap, _∙_}
+use mathlib.Core.Bool.{Bool, true, false}
+use mathlib.Core.List.{List, [], _∷_, _++_}
+use Prim.Native.Nat.{ℕ, suc, _+_, _-_, _*_, _/_, _%_, _^_, _<_, _≤_}
+use native.Mathlib.Omega.{arith}
+use borrow.Author.Tests.{ltb-true, ltb-false}
+use lib.Dec.{ltb}
+use lib.IntN.{ℤ, pos}
+use lib.Signed.{mag}
+use mir.Syntax.{w64}
+use mir.Facts.{toZ-ofZ}
+use borrow.Author.Needs.{sfits-of}
+use lib.ListN.{length, getD, length-append, List·getD-append}
+use lib.Seq.{getD-append-add}
+use Rattle.numbers.specs.Lists.{gather}
+use Rattle.numbers.specs.Words.{bytesOf, twosComplement}
+use Rattle.numbers.proofs.Machine.{back}
+use Rattle.book.specs.Results.{wordBytes}
+
+-- a signed word reads back from its bits as it was
+pub word-back : (z : ℤ) → mag z < 2 ^ 63 → back w64 z ≡ z
+word-back z h = toZ-ofZ {w = w64} (sfits-of h)
+
+abbrev wordOf : ℤ → List ℕ
+wordOf word = bytesOf 8 (twosComplement word)
+
+eight : (word : ℤ) → length (wordOf word) ≡ 8
+unfolding bytesOf
+eight word = refl
+
+pub words-length : (words : List ℤ) → length (wordBytes words) ≡ 8 * length words
+unfolding gather
+words-length [] = refl
+words-length (word ∷ words) = length-append (wordOf word) (wordBytes words) ∙ omega (arith, eight word, words-length words)
+
+pub words-at : (words : List ℤ) (i : ℕ) → i < 8 * length words → getD (wordBytes words) i 0 ≡ getD (wordOf (getD words (i / 8) (pos 0))) (i % 8) 0
+unfolding gather
+words-at [] i h = absurd (omega arith)
+words-at (word ∷ words) i h = go (ltb i 8) refl (words-at words (i - 8))
+  where
+    go : (t : Bool) → ltb i 8 ≡ t
+        → (i - 8 < 8 * length words → getD (wordBytes words) (i - 8) 0 ≡ getD (wordOf (getD words ((i - 8) / 8) (pos 0))) ((i - 8) % 8) 0)
+        → getD (wordOf word ++ wordBytes words) i 0 ≡ getD (wordOf (getD (word ∷ words) (i / 8) (pos 0))) (i % 8) 0
+    go true t rest =
+        let k = ltb-true i 8 t in
+        let q : i / 8 ≡ 0 = omega arith in
+        let r : i % 8 ≡ i = omega arith in
+        rw (q, r) (List·getD-append (wordOf word) (wordBytes words) 0 i (omega (arith, eight word)))
+    go false t rest =
+        let k = ltb-false i 8 t in
+        let q : i / 8 ≡ suc ((i - 8) / 8) = omega arith in
+        let r : i % 8 ≡ (i - 8) % 8 = omega arith in
+        let e : i ≡ length (wordOf word) + (i - 8) = omega (arith, eight word) in
+        ap (λ (j : ℕ). getD (wordOf word ++ wordBytes words) j 0) e ∙ getD-append-add (wordOf word) (wordBytes words) (i - 8) 0
+        ∙ rest (omega arith) ∙ rw (q, r)
