@@ -79,10 +79,12 @@ module _ (readings : List ℕ) (tested : (i : ℕ) → i < 1488 → word32 readi
   unfolding daySums slotSums earlierUse
   baseline-small test marks s j hs hj =
       let days = chosenDays test marks readings s in
-      omega (arith,
-      run-from (λ slot. sum (map (λ k. reading readings k slot) days)) s 6 j 0 hj,
-      slot-sum-small (s + j) (chosen-rising test marks readings s) (chosen-four test marks readings s) (omega arith),
-      window-small (earlierSlot s) 0 (omega arith) (omega arith))
+      omega (
+        arith,
+        run-from (λ slot. sum (map (λ k. reading readings k slot) days)) s 6 j 0 hj,
+        slot-sum-small (s + j) (chosen-rising test marks readings s) (chosen-four test marks readings s) (omega arith),
+        window-small (earlierSlot s) 0 (omega arith) (omega arith),
+      )
 
 -- ---- slot results
 

@@ -86,7 +86,7 @@ module _ (h : Head) (marks : List ℕ) where
     unfolding figuresOf noRemainder keepsFractions
     accurate points last totals sum ps a =
         let c = compared (partsOfWh h) (partsOfkW h) (partsOfWatt h) (length ps) (h .contract) (wh-pos h (losses-small h marks content))
-            (kW-is (product h)) (watt-is (product h)) (allQuotients h marks ps) (a .kept) (a .sixes) in
+        (kW-is (product h)) (watt-is (product h)) (allQuotients h marks ps) (a .kept) (a .sixes) in
         record {
           counted = a .count;
           unrounded = a .kept;
