@@ -2,8 +2,8 @@
 use mathlib.Core.Path.{_≡_, refl, sym, ap, _∙_}
 use mathlib.Core.Bool.{Bool, true, false}
 use mathlib.Core.List.{List, [], _∷_, _++_, map, append-nil}
-use Prim.Native.Nat.{ℕ, _+_, _<_, _≤_}
-use native.Mathlib.Nat.{add-zero, zero-add, add-assoc}
+use Prim.Native.Nat.{ℕ, _+_, _*_, _<_, _≤_}
+use native.Mathlib.Nat.{add-zero, zero-add, add-assoc, mul-suc}
 use native.Mathlib.Numerals.{add-one}
 use native.Mathlib.Omega.{arith}
 use lib.ListN.{length, getD, set, take, drop, length-append, take-append-drop}
@@ -33,3 +33,8 @@ pub sum-days : (w : ℕ → ℕ) (xs : List ℕ) (d : ℕ) → sum (map w (xs ++
 unfolding sum
 sum-days w [] d = rw (add-zero, zero-add)
 sum-days w (x ∷ xs) d = rw (sum-days w xs d, add-assoc)
+
+pub days-below : (w : ℕ → ℕ) (b : ℕ) → ((d : ℕ) → w d ≤ b) → (days : List ℕ) → sum (map w days) ≤ b * length days
+unfolding sum
+days-below w b h [] = omega arith
+days-below w b h (d ∷ days) = rw mul-suc (omega (arith, h d, days-below w b h days))

@@ -2,4 +2,5 @@ pub mod Rising
 pub mod Flags
 pub mod Keeping
 pub mod Rounds
+pub mod Walking
 pub mod Lowest

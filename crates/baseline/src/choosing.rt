@@ -48,3 +48,37 @@ fn keep(days: [usize; 5], sums: &[u64], all: u64) -> Round
         all: left,
     }
 }
+
+// Rounds over the thirty days, each with the days that the one before it left, until one drops none or the days run out.
+fn walk(eligible: [bool; 30], sums: &[u64]) -> Round
+    requires { ⌜ (length (now sums) ≡ 30) × ((k : ℕ) → getD (now sums) k 0 ≤ 6000000000) ⌝ }
+    ensures { λ r. ⌜ Holds (ofDay (now (sums .entry))) (standing (ofDay (now (sums .entry))) (daysFrom 1 eligible)) r ⌝ }
+{
+    let mut days = [0usize; 5];
+    let mut count: usize = 0;
+    let mut all: u64 = 0;
+    let mut k: usize = 0;
+    'walk: loop {
+        while count < 5 {
+            if 30 <= k {
+                break 'walk;
+            }
+            if eligible[k] {
+                days[count] = k + 1;
+                count += 1;
+                all += sums[k];
+            }
+            k += 1;
+        }
+        let left = keep(days, sums, all);
+        let stood = left.count;
+        if stood == 5 {
+            break 'walk;
+        }
+        let next = left.days;
+        days = next;
+        count = stood;
+        all = left.all;
+    }
+    Round { days, count, all }
+}
