@@ -20,10 +20,16 @@ module _ (test : ℕ → Bool) (days : List ℕ) (i : ℕ) where
   unfolding filter
   keep-no h e = rw (add-one, take-suc days i 0) (filter-append test (take i days) (getD days i 0 ∷ []) ∙ rw e (append-nil _))
 
-  pub kept-length : length (filter test (take i days)) ≤ length (filter test days)
+  kept-length : length (filter test (take i days)) ≤ length (filter test days)
   kept-length =
       let e = ap (filter test) (sym (take-append-drop i days)) ∙ filter-append test (take i days) (drop i days) in
       omega (arith, simp length-append at (ap length e))
+
+-- there is room for a day that is kept
+pub keep-room : (test : ℕ → Bool) (days : List ℕ) (i : ℕ) → i < length days → test (getD days i 0) ≡ true
+    → length (filter test (take i days)) < length (filter test days)
+keep-room test days i h e =
+    omega (arith, kept-length test days (i + 1), simp length-append at (ap length (keep-yes test days i h e)))
 
 -- one day more in the first places of an array
 pub put-day : (places held : List ℕ) (n d : ℕ) → n < length places → take n places ≡ held → take (n + 1) (set places n d) ≡ held ++ d ∷ []

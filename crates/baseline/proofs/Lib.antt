@@ -4,3 +4,4 @@ pub mod Keeping
 pub mod Rounds
 pub mod Walking
 pub mod Lowest
+pub mod Choices
