@@ -5,3 +5,5 @@ pub mod Rounds
 pub mod Walking
 pub mod Lowest
 pub mod Choices
+pub mod Large
+pub mod Sums
