@@ -93,3 +93,76 @@ fn window_sum(readings: &[u8], slot: usize, day: usize) -> u64
 {
     six_from(readings, 48 * day + slot)
 }
+
+// The window sums of days 1 to 30 back.
+pub fn window_sums(readings: &[u8], slot: usize) -> [u64; 30]
+    requires { ⌜ (length (now readings) ≡ 5952) × (slot ≤ 42) ⌝ }
+    ensures { λ r. ⌜ r ≡ windowSums (now (readings .entry)) slot ⌝ }
+{
+    let mut sums = [0u64; 30];
+    let mut k: usize = 0;
+    while k < 30 {
+        sums[k] = window_sum(readings, slot, k + 1);
+        k += 1;
+    }
+    sums
+}
+
+// The test day's six earlier readings together.
+pub fn earlier_use(readings: &[u8], slot: usize) -> u64
+    requires { ⌜ (length (now readings) ≡ 5952) × (10 ≤ slot) × (slot ≤ 42) ⌝ }
+    ensures { λ r. ⌜ r ≡ earlierUse (now (readings .entry)) slot ⌝ }
+{
+    window_sum(readings, slot - 10, 0)
+}
+
+// A day's reading in a slot.
+fn reading_of(readings: &[u8], day: usize, slot: usize) -> u32
+    requires { ⌜ (length (now readings) ≡ 5952) × (day ≤ 30) × (slot < 48) ⌝ }
+    ensures { λ r. ⌜ r ≡ reading (now (readings .entry)) day slot ⌝ }
+{
+    word32_at(readings, (48 * day + slot) * 4)
+}
+
+fn sum4(a: u32, b: u32, c: u32, d: u32) -> u64
+    ensures { λ r. ⌜ r ≡ a + b + c + d ⌝ }
+{
+    (a as u64) + (b as u64) + (c as u64) + (d as u64)
+}
+
+// A slot over four days.
+fn slot_sum(readings: &[u8], days: [usize; 4], slot: usize) -> u64
+    requires { ⌜ (length (now readings) ≡ 5952) × (slot < 48) × Back days ⌝ }
+    ensures { λ r. ⌜ r ≡ sum (map (λ k. reading (now (readings .entry)) k slot) days) ⌝ }
+{
+    sum4(
+        reading_of(readings, days[0], slot),
+        reading_of(readings, days[1], slot),
+        reading_of(readings, days[2], slot),
+        reading_of(readings, days[3], slot),
+    )
+}
+
+// The six slots from one on, each over four days.
+fn slot_sums(readings: &[u8], days: [usize; 4], slot: usize) -> [u64; 6]
+    requires { ⌜ (length (now readings) ≡ 5952) × (slot ≤ 42) × Back days ⌝ }
+    ensures { λ r. ⌜ r ≡ slotSums (now (readings .entry)) days slot ⌝ }
+{
+    let mut sums = [0u64; 6];
+    let mut j: usize = 0;
+    while j < 6 {
+        sums[j] = slot_sum(readings, days, slot + j);
+        j += 1;
+    }
+    sums
+}
+
+// Six window sums and six earlier sums, each over four days.
+pub fn day_sums(readings: &[u8], days: [usize; 4], slot: usize) -> [[u64; 6]; 2]
+    requires { ⌜ (length (now readings) ≡ 5952) × (10 ≤ slot) × (slot ≤ 42) × Back days ⌝ }
+    ensures { λ r. ⌜ r ≡ daySums (now (readings .entry)) days slot ⌝ }
+{
+    let window = slot_sums(readings, days, slot);
+    let earlier = slot_sums(readings, days, slot - 10);
+    [window, earlier]
+}
