@@ -15,7 +15,7 @@ use Rattle.numbers.proofs.total_of.Tie as tie
 
 abbrev Inv-loop : tie.InvT-loop
 Inv-loop totals total₀ i₀ total i =
-    (i ≤ 6) × (length totals ≡ 6) × (natAbs (toZ w64 total) ≤ i * 1000000000000000) × (sumℤ totals ≡ toZ w64 total +ℤ sumℤ (drop i totals))
+    (i ≤ 6) × (length totals ≡ 6) × (natAbs (toZ w64 total) ≤ i * 1_000_000_000_000_000) × (sumℤ totals ≡ toZ w64 total +ℤ sumℤ (drop i totals))
 
 abbrev μ-loop : tie.MeasureT-loop
 μ-loop totals total₀ i₀ total i = 6 - i
