@@ -1,0 +1,25 @@
+use borrow.Author.Needs.{needs}
+use Rattle.ledger.proofs.adding.state_refusal.Statement.{statement}
+use Rattle.ledger.proofs.adding.state_refusal.Tie as tie
+use Rattle.ledger.proofs.adding.state_refusal.Reads as reads
+use Rattle.ledger.proofs.adding.state_refusal.Lts as lts
+use Rattle.ledger.proofs.states.is_unsound.Reads as is-unsound-reads
+
+-- src/adding.rt:51:8
+is-unsound-requires : tie.Need-is-unsound-requires
+is-unsound-requires c κs = search needs
+
+-- src/adding.rt:52:9
+returns : tie.Need-returns
+returns c = ?
+
+-- src/adding.rt:57:9
+returns-2 : tie.Need-returns-2
+returns-2 c = ?
+
+-- src/adding.rt:48:1
+returns-3 : tie.Need-returns-3
+returns-3 c = ?
+
+pub state-refusal-spec : {M : Type 1} → statement M
+state-refusal-spec = tie.close (tie.spec is-unsound-requires returns returns-2 returns-3)
