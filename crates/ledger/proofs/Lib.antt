@@ -7,3 +7,4 @@ pub mod Bounds
 pub mod Divisors
 pub mod Sound
 pub mod Demand3
+pub mod Sequence
