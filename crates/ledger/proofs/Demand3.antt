@@ -8,22 +8,24 @@ use native.Mathlib.Decide.{ℕ-discrete}
 use native.Mathlib.Omega.{arith}
 use lib.Dec.{T, ltb, eqb}
 use lib.IntN.{ℤ, pos, _+ℤ_}
+use lib.Signed.{leZ}
 use lib.ListN.{length, replicate, length-append}
 use borrow.Author.Tests.{eq-eqb, ne-eqb}
 use Rattle.numbers.specs.Lists.{any, gather}
-use Rattle.numbers.specs.Integers.{sumℤ}
+use Rattle.numbers.specs.Integers.{divides, sumℤ}
 use Rattle.ledger.specs.Heads.{headOf, contentRefusal, openingRefusal}
 use Rattle.ledger.specs.Points.{Point, Quotient, kindOf, numberOf, quotients, rounded, results}
 use Rattle.ledger.specs.States.{opened, noState, plus, taken}
 use Rattle.ledger.specs.Figures.{figuresOf}
 use Rattle.ledger.specs.Operations.{openOf, pointRefusal, addingRefusal, addOf, closingRefusal, closeOf}
 use Rattle.ledger.specs.Account.{Call, adding, closing, Account, product, partsOfkW, partsOfWatt, partsOfWh, exactly, exactSum, exactShortfall, opening, Said, said, saysOf, allRefused, account}
-use Rattle.ledger.specs.Demand3.{Reply, refused, accepted, closed, replyOf, replies, program, takenBefore, takenAll, allQuotients, roundedTotal, noRemainder, keepsFractions, Accurate, Agree, both-refuse, both-accept, both-close, AgreeAll, end, next, Demand3}
+use Rattle.ledger.specs.Demand3.{Reply, refused, accepted, closed, replyOf, replies, program, takenBefore, takenAll, allQuotients, roundedTotal, noRemainder, noLoss, keepsFractions, Accurate, Agree, both-refuse, both-accept, both-close, AgreeAll, end, next, Demand3}
 use Rattle.ledger.specs.declared.Head.{Head}
 use Rattle.ledger.specs.declared.State.{State}
-use Rattle.ledger.proofs.Lists.{gather-append, none-append}
-use Rattle.ledger.proofs.Sums.{sum-append, sum-plus, length-plus}
-use Rattle.ledger.proofs.Rounding.{Compared, compared, goesInto}
+use Rattle.ledger.specs.declared.Figures.{Figures}
+use Rattle.ledger.proofs.Lists.{every, none-append, gather-append}
+use Rattle.ledger.proofs.Sums.{sum-append, taken-total, length-plus}
+use Rattle.ledger.proofs.Rounding.{whole, compared}
 use Rattle.ledger.proofs.Bounds.{six-quotients, six-results, losses-small, point-clear}
 use Rattle.ledger.proofs.Divisors.{goes-by, wh-pos, wholes}
 use Rattle.ledger.proofs.Sound.{Sound, open-good, open-bad, opening-content, opened-sound, add-good, add-bad, adding-sound, taken-sound, close-good, close-bad, closing-sound, nothing-taken, nothing-closed}
@@ -66,7 +68,7 @@ module _ (h : Head) (marks : List ℕ) where
         sound = taken-sound (stateOf points last totals) (a .sound) tag value places e;
         count = simp length-append (omega arith);
         six = length-plus totals _ (a .six ∙ sym results-six) ∙ a .six;
-        total = sum-plus totals _ (a .six ∙ sym results-six) ∙ rw (a .total, more, sum-append);
+        total = taken-total (stateOf points last totals) _ (numberOf value) (a .six ∙ sym results-six) ∙ rw (a .total, more, sum-append);
         exact = rw (a .exact, more, sum-append);
         sixes = rw more (simp length-append (omega arith));
         kept = rw more (none-append _ (allQuotients h marks ps) _ .1 (a .kept, goes-by h marks (kindOf tag) value (c .1 .1 .1 .1 .1 .1 .0)));
@@ -81,17 +83,23 @@ module _ (h : Head) (marks : List ℕ) where
     watt-is : (v : ℕ) → 3 * (24 * v) ≡ 72 * v
     watt-is v = omega arith
 
+    -- a division that is not listed leaves no remainder
+    no-loss : (ps : List Point) (figures : Figures) → noLoss h marks ps figures
+        ≡ (leZ (pos (h .contract)) (figures .settled) || every whole (allQuotients h marks ps) && divides 3_000 (roundedTotal h marks ps))
+    unfolding noRemainder
+    no-loss ps figures = ap (λ wholly. leZ (pos (h .contract)) (figures .settled) || wholly && divides 3_000 (roundedTotal h marks ps)) (wholes h marks ps)
+
     accurate : (points : ℕ) (last : List ℕ) (totals : List ℤ) (sum : ℤ) (ps : List Point) → Along h marks points last totals sum ps
         → Accurate h marks ps (figuresOf (h .contract) totals points) (exactShortfall (accountOf points last sum))
-    unfolding figuresOf noRemainder keepsFractions
+    unfolding figuresOf keepsFractions
     accurate points last totals sum ps a =
         let c = compared (partsOfWh h) (partsOfkW h) (partsOfWatt h) (length ps) (h .contract) (wh-pos h (losses-small h marks content))
             (kW-is (product h)) (watt-is (product h)) (allQuotients h marks ps) (a .kept) (a .sixes) in
         record {
           counted = a .count;
           unrounded = a .kept;
-          equal = rw (a .total, a .exact, wholes) (c .equal);
-          otherwise = rw (a .total, a .exact, wholes) (c .otherwise);
+          equal = rw (no-loss, a .total, a .exact) (c .equal);
+          otherwise = rw (no-loss, a .total, a .exact) λ t. let b = c .otherwise t in omega arith;
         }
 
     close-at : (points : ℕ) (last : List ℕ) (totals : List ℤ) (sum : ℤ) (ps : List Point) → Along h marks points last totals sum ps
