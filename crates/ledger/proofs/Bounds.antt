@@ -1,21 +1,20 @@
 -- How large readings, baselines and slot results can be. Assumes nothing.
-use mathlib.Core.Path.{_≡_, refl, sym, _∙_, ap}
+use mathlib.Core.Path.{_≡_, refl}
 use mathlib.Core.Bool.{Bool, true, false, cond, not, _&&_, true≢false}
 use mathlib.Core.List.{List, [], _∷_, map}
 use Prim.Native.Nat.{ℕ, zero, suc, _+_, _*_, _-_, _<_, _≤_}
 use native.Mathlib.Nat.{le-trans, add-zero, add-suc, suc-add, add-comm, add-assoc, suc-mul}
 use native.Mathlib.Omega.{arith}
-use lib.Dec.{T, leb, ltb, eqb}
+use lib.Dec.{T, leb, ltb}
 use lib.IntN.{ℤ, pos, natAbs, _-ℤ_}
 use lib.ListN.{length, getD, drop, length-map}
 use lib.Seq.{getD-drop}
 use mir.Facts.{and-yes, leb-yes, no-ltb, ltb-no}
 use borrow.Author.Tests.{ltb-false, not-false}
 use Rattle.numbers.specs.Lists.{run, sum, any}
-use Rattle.numbers.specs.Words.{word16, word32}
-use Rattle.numbers.specs.Integers.{floorDiv}
+use Rattle.numbers.specs.Words.{word32}
 use Rattle.numbers.proofs.Filling.{run-length, run-from}
-use Rattle.numbers.proofs.Differences.{by⊖, ⊖s}
+use Rattle.numbers.proofs.Differences.{⊖s}
 use Rattle.numbers.proofs.Floors.{natAbs-floor, slot-bound}
 use Rattle.numbers.proofs.Refusals.{Clear, clear}
 use Rattle.baseline.specs.Readings.{mostReading, firstLarge, reading, windowSum, slotSums, daySums, earlierSlot, earlierUse}
@@ -27,7 +26,7 @@ use Rattle.ledger.specs.Heads.{contentTests, contentRefusal, testDay}
 use Rattle.ledger.specs.Points.{Kind, consumer, generator, unknown, kindOf, isUnknown, isUnfit, hasLarge, readingsOf, readingCount, lossOf, baselineOf, consumerQuotient, generatorQuotient, quotients, rounded, results}
 use Rattle.ledger.specs.Operations.{pointTests, pointRefusal}
 use Rattle.ledger.specs.declared.Head.{Head}
-use Rattle.ledger.proofs.Lists.{none as noneOf, none-cons, none-run, none-at, any-map}
+use Rattle.ledger.proofs.Lists.{noneOf, none-cons, none-run, any-map}
 use Rattle.ledger.proofs.Days.{chosen-rising, chosen-four}
 
 -- ---- sums of bounded numbers
@@ -79,10 +78,12 @@ module _ (readings : List ℕ) (tested : (i : ℕ) → i < 1488 → word32 readi
   unfolding daySums slotSums earlierUse
   baseline-small test marks s j hs hj =
       let days = chosenDays test marks readings s in
-      omega (arith,
-      run-from (λ slot. sum (map (λ k. reading readings k slot) days)) s 6 j 0 hj,
-      slot-sum-small (s + j) (chosen-rising test marks readings s) (chosen-four test marks readings s) (omega arith),
-      window-small (earlierSlot s) 0 (omega arith) (omega arith))
+      omega (
+        arith,
+        run-from (λ slot. sum (map (λ k. reading readings k slot) days)) s 6 j 0 hj,
+        slot-sum-small (s + j) (chosen-rising test marks readings s) (chosen-four test marks readings s) (omega arith),
+        window-small (earlierSlot s) 0 (omega arith) (omega arith),
+      )
 
 -- ---- slot results
 

@@ -1,18 +1,17 @@
 -- The chosen days: they rise, none is past the thirtieth, and there are at most four. Assumes nothing.
 use mathlib.Core.Path.{_≡_, refl}
 use mathlib.Core.Bool.{Bool, true, false, cond, not}
-use mathlib.Core.List.{List, [], _∷_, _++_, map}
-use Prim.Native.Nat.{ℕ, zero, suc, _+_, _*_, _<_, _≤_}
-use native.Mathlib.Nat.{le-refl, le-of-eq, suc-mul}
+use mathlib.Core.List.{List, [], _∷_, _++_}
+use Prim.Native.Nat.{ℕ, zero, suc, _≤_}
+use native.Mathlib.Nat.{le-refl, le-of-eq}
 use native.Mathlib.Decide.{ℕ-discrete}
 use native.Mathlib.Omega.{arith}
 use lib.Dec.{ltb, eqb}
 use lib.ListN.{length, take, drop, length-append, length-take, length-drop}
 use borrow.Author.Tests.{ltb-true, ltb-false, eqb-false}
-use Rattle.numbers.specs.Lists.{run, sum, filter}
-use Rattle.numbers.proofs.Filling.{run-length}
+use Rattle.numbers.specs.Lists.{run}
 use Rattle.calendar.specs.Eligible.{isEligible, eligibleDays}
-use Rattle.baseline.specs.Choosing.{round, walk, standing, lowest, used, chosen}
+use Rattle.baseline.specs.Choosing.{round, walk, lowest, used, chosen}
 use Rattle.baseline.specs.Baseline.{chosenDays}
 use Rattle.baseline.specs.Days.{Rising, none, next}
 use Rattle.baseline.proofs.Rising.{rising-append, rising-filter, rising-farther}

@@ -2,24 +2,23 @@
 use mathlib.Core.Path.{_≡_, refl, sym, _∙_, ap}
 use mathlib.Core.Bool.{Bool, true, false, cond, not, _&&_, _||_}
 use mathlib.Core.List.{List, [], _∷_, _++_, map, append-nil}
-use mathlib.Core.Option.{Option, none, some}
-use Prim.Native.Nat.{ℕ, zero, suc, _+_, _*_, _<_, _≤_}
+use Prim.Native.Nat.{ℕ, _+_, _*_}
 use native.Mathlib.Decide.{ℕ-discrete}
 use native.Mathlib.Omega.{arith}
-use lib.Dec.{T, ltb, eqb}
+use lib.Dec.{T, ltb}
 use lib.IntN.{ℤ, pos, _+ℤ_}
 use lib.Signed.{leZ}
 use lib.ListN.{length, replicate, length-append}
-use borrow.Author.Tests.{eq-eqb, ne-eqb}
+use borrow.Author.Tests.{ne-eqb}
 use Rattle.numbers.specs.Lists.{any, gather}
 use Rattle.numbers.specs.Integers.{divides, sumℤ}
 use Rattle.ledger.specs.Heads.{headOf, contentRefusal, openingRefusal}
-use Rattle.ledger.specs.Points.{Point, Quotient, kindOf, numberOf, quotients, rounded, results}
-use Rattle.ledger.specs.States.{opened, noState, plus, taken}
+use Rattle.ledger.specs.Points.{Point, kindOf, numberOf, quotients, results}
+use Rattle.ledger.specs.States.{noState, plus, taken}
 use Rattle.ledger.specs.Figures.{figuresOf}
-use Rattle.ledger.specs.Operations.{openOf, pointRefusal, addingRefusal, addOf, closingRefusal, closeOf}
+use Rattle.ledger.specs.Operations.{pointRefusal, addingRefusal, closingRefusal, closeOf}
 use Rattle.ledger.specs.Account.{Call, adding, closing, Account, product, partsOfkW, partsOfWatt, partsOfWh, exactly, exactSum, exactShortfall, opening, Said, said, saysOf, allRefused, account}
-use Rattle.ledger.specs.Demand3.{Reply, refused, accepted, closed, replyOf, replies, program, takenBefore, takenAll, allQuotients, roundedTotal, noRemainder, noLoss, keepsFractions, Accurate, Agree, both-refuse, both-accept, both-close, AgreeAll, end, next, Demand3}
+use Rattle.ledger.specs.Demand3.{refused, accepted, closed, replyOf, replies, program, takenBefore, takenAll, allQuotients, roundedTotal, noRemainder, noLoss, keepsFractions, Accurate, Agree, both-refuse, both-accept, both-close, AgreeAll, end, next, Demand3}
 use Rattle.ledger.specs.declared.Head.{Head}
 use Rattle.ledger.specs.declared.State.{State}
 use Rattle.ledger.specs.declared.Figures.{Figures}
@@ -94,7 +93,7 @@ module _ (h : Head) (marks : List ℕ) where
     unfolding figuresOf keepsFractions
     accurate points last totals sum ps a =
         let c = compared (partsOfWh h) (partsOfkW h) (partsOfWatt h) (length ps) (h .contract) (wh-pos h (losses-small h marks content))
-            (kW-is (product h)) (watt-is (product h)) (allQuotients h marks ps) (a .kept) (a .sixes) in
+        (kW-is (product h)) (watt-is (product h)) (allQuotients h marks ps) (a .kept) (a .sixes) in
         record {
           counted = a .count;
           unrounded = a .kept;

@@ -1,25 +1,25 @@
 -- The divisors of a point's quotients: they go into the parts of a Wh, and only those of a consumer can leave a remainder. Assumes nothing.
-use mathlib.Core.Path.{_≡_, refl, sym, _∙_, ap}
-use mathlib.Core.Bool.{Bool, true, false, not, _&&_, _||_}
-use mathlib.Core.List.{List, [], _∷_, _++_}
-use Prim.Native.Nat.{ℕ, zero, suc, _+_, _*_, _-_, _%_, _<_, _≤_}
+use mathlib.Core.Path.{_≡_, refl, sym, ap}
+use mathlib.Core.Bool.{false, not, _&&_}
+use mathlib.Core.List.{List, [], _∷_}
+use Prim.Native.Nat.{ℕ, zero, suc, _+_, _*_, _-_, _<_, _≤_}
 use native.Mathlib.Nat.{mul-mod-right, mul-pos}
 use native.Mathlib.Omega.{arith}
 use lib.Dec.{T, leb, ltb}
 use lib.IntN.{pos, _-ℤ_}
 use lib.ListN.{getD}
-use mir.Facts.{and-yes, leb-yes, yes-eqb, T-not-not}
+use mir.Facts.{and-yes, leb-yes}
 use Rattle.numbers.specs.Lists.{any, gather}
 use Rattle.numbers.specs.Words.{word32}
 use Rattle.numbers.specs.Integers.{divides}
 use Rattle.numbers.proofs.Filling.{any-append}
 use Rattle.numbers.proofs.Floors.{divides-one}
 use Rattle.ledger.specs.Limits.{mostLoss}
-use Rattle.ledger.specs.Points.{Point, Kind, consumer, generator, unknown, Quotient, kindOf, classOf, isUnfit, baselineOf, readingsOf, generatorQuotient, quotients}
-use Rattle.ledger.specs.Account.{product, partsOfWh}
+use Rattle.ledger.specs.Points.{Point, Kind, consumer, generator, unknown, kindOf, classOf, isUnfit, baselineOf, readingsOf, generatorQuotient, quotients}
+use Rattle.ledger.specs.Account.{partsOfWh}
 use Rattle.ledger.specs.Demand3.{divisionsBy, divisions, allQuotients}
 use Rattle.ledger.specs.declared.Head.{Head}
-use Rattle.ledger.proofs.Lists.{no-false, none, every, every-run}
+use Rattle.ledger.proofs.Lists.{no-false, noneOf, every, every-run}
 use Rattle.ledger.proofs.Rounding.{whole, goesInto}
 use Rattle.ledger.proofs.Bounds.{loss-small, passed}
 
@@ -51,7 +51,7 @@ goes-by h marks unknown value fit = tt
 parts-pos : (a b c : ℕ) → 0 < a → 0 < b → 0 < c → 0 < 24 * (a * b * c)
 parts-pos a b c p q r = omega (arith, mul-pos (mul-pos p q) r)
 
-pub wh-pos : (h : Head) → T (none (λ loss. ltb mostLoss loss) (h .losses)) → 0 < partsOfWh h
+pub wh-pos : (h : Head) → T (noneOf (λ loss. ltb mostLoss loss) (h .losses)) → 0 < partsOfWh h
 wh-pos h t = parts-pos _ _ _ (omega (arith, loss-small (h .losses) 0 t)) (omega (arith, loss-small (h .losses) 1 t)) (omega (arith, loss-small (h .losses) 2 t))
 
 -- ---- a division that is not listed leaves no remainder

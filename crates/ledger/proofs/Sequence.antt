@@ -1,6 +1,6 @@
 -- Two sequences of calls worked out, by computing: what the program replies and what the account says, with the figures. Assumes nothing.
 use mathlib.Core.Path.{_≡_, refl}
-use mathlib.Core.Bool.{Bool, true, false}
+use mathlib.Core.Bool.{false}
 use mathlib.Core.List.{List, [], _∷_, _++_}
 use Prim.Native.Nat.{ℕ, _+_, _*_}
 use lib.IntN.{pos}
@@ -18,7 +18,7 @@ use Rattle.ledger.specs.States.{isUnsound, plus, taken}
 use Rattle.ledger.specs.Figures.{figuresOf}
 use Rattle.ledger.specs.Operations.{openOf, pointRefusal, addingRefusal, addOf, closingRefusal, closeOf}
 use Rattle.ledger.specs.Account.{Call, adding, closing, opening, Said, saysOf, account, partsOfkW}
-use Rattle.ledger.specs.Demand3.{Reply, refused, accepted, closed, replies, program}
+use Rattle.ledger.specs.Demand3.{refused, accepted, closed, replies, program}
 use Rattle.ledger.specs.Examples.{head, highVoltage}
 
 -- the head of the examples with two points to come: contract 1,000 kW, losses 700, 400, 200
