@@ -2,4 +2,8 @@ pub mod Rising
 pub mod Flags
 pub mod Keeping
 pub mod Rounds
+pub mod Walking
 pub mod Lowest
+pub mod Choices
+pub mod Large
+pub mod Sums

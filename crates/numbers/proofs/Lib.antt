@@ -1,5 +1,8 @@
 pub mod Differences
 pub mod Floors
 pub mod Filling
+pub mod Tables
 pub mod Refusals
 pub mod Machine
+pub mod Sums
+pub mod PointNumbers

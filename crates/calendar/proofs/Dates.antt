@@ -1,0 +1,116 @@
+-- What a date tells of its year, month and day, and the bounds of its count. Assumes nothing.
+use mathlib.Core.Path.{_≡_, refl}
+use mathlib.Core.Bool.{Bool, true, false, cond, _&&_, _||_, and-eq-true-iff, and-false}
+use mathlib.Core.List.{List, [], _∷_}
+use mathlib.Core.Logic.{inl, inr, ⊎-elim}
+use Prim.Native.Nat.{ℕ, _+_, _-_, _≤_, _<_, _%_}
+use native.Mathlib.Omega.{arith}
+use lib.Dec.{leb, ltb, eqb, T, leb→le, eqb→eq}
+use lib.ListN.{getD, replicate, getD-replicate}
+use mir.Val.{hasKey}
+use mir.Facts.{or-yes}
+use types.Run.{OneOf, hit}
+use borrow.Author.Tests.{leb-true, eqb-true, ne-eqb}
+use Rattle.numbers.specs.Lists.{run, sum}
+use Rattle.calendar.specs.Dates.{isLeap, monthDays, daysIn, commonDaysBefore, isDate, dayCount}
+use Rattle.numbers.proofs.Filling.{run-from}
+
+-- ---- months
+
+-- a test that antt computes at each of n numbers from i on
+every : (test : ℕ → Bool) (i n : ℕ) → run test i n ≡ replicate n true → (k : ℕ) → i ≤ k → k < i + n → T (test k)
+every test i n e k h l =
+    let b : k - i < n = omega arith in
+    let q : i + (k - i) ≡ k = omega arith in
+    rw (← q, ← run-from test i n (k - i) true b, e, getD-replicate n (k - i) true true b) tt
+
+module _ (month : ℕ) (h : 1 ≤ month) (l : month ≤ 12) where
+  -- a common year's days up to the end of a month
+  pub month-end : commonDaysBefore month + getD monthDays (month - 1) 0 ≤ 365
+  unfolding sum run
+  month-end = leb→le _ _ (every (λ m. leb (commonDaysBefore m + getD monthDays (m - 1) 0) 365) 1 12 refl month h (omega arith))
+
+  -- any other than February and those of thirty days
+  pub thirty-one : (year : ℕ) → (month ≡ 2 → ⊥) → (OneOf (4 ∷ 6 ∷ 9 ∷ 11 ∷ []) month → ⊥) → daysIn year month ≡ 31
+  unfolding run
+  thirty-one year february thirty =
+      let days = getD monthDays (month - 1) 0 in
+      let shorter : List ℕ = 2 ∷ 4 ∷ 6 ∷ 9 ∷ 11 ∷ [] in
+      let t = every (λ m. eqb (getD monthDays (m - 1) 0) 31 || hasKey shorter m) 1 12 refl month h (omega arith) in
+      ⊎-elim (λ e. simp (eqb→eq days 31 e, ne-eqb month 2 february, and-false))
+      (λ k. absurd (⊎-elim february thirty (hit shorter month k)))
+      (or-yes (eqb days 31) (hasKey shorter month) t)
+
+pub thirty : (year month : ℕ) → OneOf (4 ∷ 6 ∷ 9 ∷ 11 ∷ []) month → daysIn year month ≡ 30
+thirty year month (inl e) = rw (e, and-false)
+thirty year month (inr (inl e)) = rw (e, and-false)
+thirty year month (inr (inr (inl e))) = rw (e, and-false)
+thirty year month (inr (inr (inr e))) = rw (e, and-false)
+
+-- ---- dates
+
+-- the parts of a date
+pub record Parts (year month day : ℕ) : Type 0 where
+  pub first-year : 2020 ≤ year
+  pub last-year : year ≤ 2099
+  pub first-month : 1 ≤ month
+  pub last-month : month ≤ 12
+  pub first-day : 1 ≤ day
+  pub last-day : day ≤ daysIn year month
+
+one-most : (b : Bool) → cond b 1 0 ≤ 1
+one-most true = omega arith
+one-most false = omega arith
+
+module _ (year month day : ℕ) where
+  pub parts : isDate year month day ≡ true → Parts year month day
+  unfolding isDate
+  parts e =
+      let a = leb 2020 year in
+      let b = a && leb year 2099 in
+      let c = b && leb 1 month in
+      let d = c && leb month 12 in
+      let f = d && leb 1 day in
+      let day-last = and-eq-true-iff f (leb day (daysIn year month)) .0 e in
+      let day-first = and-eq-true-iff d (leb 1 day) .0 (day-last .0) in
+      let month-last = and-eq-true-iff c (leb month 12) .0 (day-first .0) in
+      let month-first = and-eq-true-iff b (leb 1 month) .0 (month-last .0) in
+      let years = and-eq-true-iff a (leb year 2099) .0 (month-first .0) in
+      record {
+        first-year = leb-true _ _ (years .0);
+        last-year = leb-true _ _ (years .1);
+        first-month = leb-true _ _ (month-first .1);
+        last-month = leb-true _ _ (month-last .1);
+        first-day = leb-true _ _ (day-first .1);
+        last-day = leb-true _ _ (day-last .1);
+      }
+
+  no-date : (Parts year month day → ⊥) → (b : Bool) → isDate year month day ≡ b → isDate year month day ≡ false
+  no-date f true e = absurd (f (parts e))
+  no-date f false e = e
+
+  pub not-date : (Parts year month day → ⊥) → isDate year month day ≡ false
+  not-date f = no-date f (isDate year month day) refl
+
+  -- 2020-01-01 is day 7305
+  pub count-least : isDate year month day ≡ true → 7305 ≤ dayCount year month day
+  unfolding dayCount
+  count-least e = let p = parts e in omega arith
+
+  most : Parts year month day → (leap : Bool) → isLeap year ≡ leap → dayCount year month day ≤ 36524
+  unfolding dayCount
+  most p true q =
+      omega (
+        arith,
+        eqb-true (year % 4) 0 q,
+        month-end month (p .first-month) (p .last-month),
+        one-most (isLeap year && ltb 2 month),
+        one-most (isLeap year && eqb month 2),
+      )
+  most p false q =
+      let h = rw q at (p .last-day) in
+      rw q (omega (arith, month-end month (p .first-month) (p .last-month)))
+
+  -- 2099-12-31 is day 36524
+  pub count-most : isDate year month day ≡ true → dayCount year month day ≤ 36524
+  count-most e = most (parts e) (isLeap year) refl

@@ -1,0 +1,38 @@
+-- `calendar::days_before` meets its contract. Assumes nothing.
+use mathlib.Core.Path.{sym}
+use mathlib.Core.Logic.{⊎-elim}
+use native.Mathlib.Nat.{add-zero}
+use native.Mathlib.Omega.{arith}
+use borrow.Author.Needs.{needs}
+use Rattle.calendar.proofs.Dates.{month-end}
+use Rattle.calendar.proofs.days_before.Statement.{statement}
+use Rattle.calendar.proofs.days_before.Tie as tie
+
+common-days-before-requires : tie.Need-common-days-before-requires
+common-days-before-requires c κs = search needs
+
+is-leap-requires : tie.Need-is-leap-requires
+is-leap-requires c κs = search needs
+
+add-result : tie.Need-add-result
+add-result c =
+    let m = c .before .before .before .before .args .month in
+    omega (arith, month-end m (omega arith) (omega arith))
+
+returns : tie.Need-returns
+returns c =
+    let e = c .before .before .before .common-days-before .ensures in
+    let leap = c .before .before .is-leap .ensures in
+    rw (e, ← leap, c .before .if1 .taken, c .if2 .taken)
+
+returns-2 : tie.Need-returns-2
+returns-2 c =
+    let e = c .before .before .common-days-before .ensures in
+    let leap = c .before .is-leap .ensures in
+    ⊎-elim (λ w. rw (e, ← leap, w .0 .taken, w .1 .left) (sym (add-zero _)))
+    (λ w. rw (e, ← leap, w .left) (sym (add-zero _)))
+    (c .if1 .came)
+
+pub days-before-spec : {M : Type 1} → statement M
+days-before-spec =
+    tie.close (tie.spec common-days-before-requires is-leap-requires add-result returns returns-2)
