@@ -3,7 +3,7 @@ use mathlib.Core.Path.{_≡_, refl}
 use mathlib.Core.Bool.{Bool, true, false, cond, not, _&&_, true≢false}
 use mathlib.Core.List.{List, [], _∷_, map}
 use Prim.Native.Nat.{ℕ, zero, suc, _+_, _*_, _-_, _<_, _≤_}
-use native.Mathlib.Nat.{le-trans, add-zero, add-suc, suc-add, add-comm, add-assoc, suc-mul}
+use native.Mathlib.Nat.{le-trans, le-of-eq, le-antisymm, add-zero, add-suc, suc-add, add-comm, add-assoc, suc-mul}
 use native.Mathlib.Omega.{arith}
 use lib.Dec.{T, leb, ltb}
 use lib.IntN.{ℤ, pos, natAbs, _-ℤ_}
@@ -13,21 +13,24 @@ use mir.Facts.{and-yes, leb-yes, no-ltb, ltb-no}
 use borrow.Author.Tests.{ltb-false, not-false}
 use Rattle.numbers.specs.Lists.{run, sum, any}
 use Rattle.numbers.specs.Words.{word32}
-use Rattle.numbers.proofs.Filling.{run-length, run-from}
+use Rattle.numbers.proofs.Filling.{run-length, run-from, any-none}
 use Rattle.numbers.proofs.Differences.{⊖s}
 use Rattle.numbers.proofs.Floors.{natAbs-floor, slot-bound}
 use Rattle.numbers.proofs.Refusals.{Clear, clear}
-use Rattle.baseline.specs.Readings.{mostReading, firstLarge, reading, windowSum, slotSums, daySums, earlierSlot, earlierUse}
+use Rattle.calendar.specs.Eligible.{ofDay, isEligible, eligibleDays}
+use Rattle.baseline.specs.Readings.{mostReading, firstLarge, reading, windowSum, windowSums, slotSums, daySums, earlierSlot, earlierUse}
 use Rattle.baseline.specs.Baseline.{chosenDays, baseline}
 use Rattle.baseline.specs.Days.{Rising, none, next}
 use Rattle.baseline.proofs.Rising.{rising-far}
+use Rattle.baseline.proofs.Flags.{flags-rising, flags-filter}
+use Rattle.baseline.proofs.Lowest.{chosen-rising, chosen-length}
+use Rattle.baseline.proofs.Large.{none-large, first-bound}
 use Rattle.ledger.specs.Limits.{mostLoss, mostBaseline, mostResult}
 use Rattle.ledger.specs.Heads.{contentTests, contentRefusal, testDay}
 use Rattle.ledger.specs.Points.{Kind, consumer, generator, unknown, kindOf, isUnknown, isUnfit, hasLarge, readingsOf, readingCount, lossOf, baselineOf, consumerQuotient, generatorQuotient, quotients, rounded, results}
 use Rattle.ledger.specs.Operations.{pointTests, pointRefusal}
 use Rattle.ledger.specs.declared.Head.{Head}
-use Rattle.ledger.proofs.Lists.{noneOf, none-cons, none-run, any-map}
-use Rattle.ledger.proofs.Days.{chosen-rising, chosen-four}
+use Rattle.ledger.proofs.Lists.{no-false, noneOf, none-run, any-map}
 
 -- ---- sums of bounded numbers
 
@@ -46,20 +49,8 @@ sum-days f most p (next {k = k} l r) = rw suc-mul (omega (arith, p k (rising-far
 
 -- ---- readings that were tested
 
-word32-drop : (bytes : List ℕ) (k at : ℕ) → word32 (drop k bytes) at ≡ word32 bytes (k + at)
-word32-drop bytes k at = simp (getD-drop, add-assoc)
-
-pub first-large : (readings : List ℕ) (n : ℕ) → n ≤ firstLarge readings n → (i : ℕ) → i < n → word32 readings (i * 4) ≤ mostReading
-unfolding firstLarge
-first-large readings zero p i h = absurd (omega arith)
-first-large readings (suc n) p i h = go (ltb mostReading (word32 readings 0)) refl p (first-large (drop 4 readings) n) i h
-  where
-    go : (t : Bool) → ltb mostReading (word32 readings 0) ≡ t → suc n ≤ cond t 0 (suc (firstLarge (drop 4 readings) n))
-        → (n ≤ firstLarge (drop 4 readings) n → (i : ℕ) → i < n → word32 (drop 4 readings) (i * 4) ≤ mostReading)
-        → (i : ℕ) → i < suc n → word32 readings (i * 4) ≤ mostReading
-    go true e p f i h = absurd (omega arith)
-    go false e p f zero h = ltb-false mostReading (word32 readings 0) e
-    go false e p f (suc i) h = rw (suc-mul, add-comm (i * 4) 4, ← (word32-drop readings 4 (i * 4))) (f (omega arith) i (omega arith))
+eligible-rising : (test : ℕ) (marks : List ℕ) → Rising 0 30 (eligibleDays test marks)
+eligible-rising test marks = rw (← flags-filter) (flags-rising (run (isEligible test marks) 1 30) (le-of-eq (run-length _ 1 30)))
 
 module _ (readings : List ℕ) (tested : (i : ℕ) → i < 1488 → word32 readings (i * 4) ≤ mostReading) where
   pub reading-small : (k i : ℕ) → k ≤ 30 → i < 48 → reading readings k i ≤ mostReading
@@ -78,10 +69,12 @@ module _ (readings : List ℕ) (tested : (i : ℕ) → i < 1488 → word32 readi
   unfolding daySums slotSums earlierUse
   baseline-small test marks s j hs hj =
       let days = chosenDays test marks readings s in
+      let w = ofDay (windowSums readings s) in
+      let r = eligible-rising test marks in
       omega (
         arith,
         run-from (λ slot. sum (map (λ k. reading readings k slot) days)) s 6 j 0 hj,
-        slot-sum-small (s + j) (chosen-rising test marks readings s) (chosen-four test marks readings s) (omega arith),
+        slot-sum-small (s + j) (chosen-rising w r) (chosen-length w r) (omega arith),
         window-small (earlierSlot s) 0 (omega arith) (omega arith),
       )
 
@@ -90,11 +83,6 @@ module _ (readings : List ℕ) (tested : (i : ℕ) → i < 1488 → word32 readi
 -- beyond what a slot result can be
 abbrev pub isBeyond : ℕ → ℤ → Bool
 isBeyond most z = ltb most (natAbs z)
-
-pub loss-small : (losses : List ℕ) (i : ℕ) → T (noneOf (λ loss. ltb mostLoss loss) losses) → getD losses i 0 ≤ mostLoss
-loss-small [] i t = omega arith
-loss-small (loss ∷ losses) zero t = ltb-no (none-cons (λ loss. ltb mostLoss loss) loss losses .0 t .0)
-loss-small (loss ∷ losses) (suc i) t = loss-small losses i (none-cons (λ loss. ltb mostLoss loss) loss losses .0 t .1)
 
 consumer-small : (loss base used : ℕ) → loss ≤ mostLoss → base ≤ 48 * mostReading → used ≤ mostReading
     → natAbs (rounded (consumerQuotient loss base used)) ≤ mostResult
@@ -109,15 +97,18 @@ generator-small kW metered hk hm = le-trans (natAbs-floor (pos metered -ℤ pos 
 -- 17 was not told
 pub tested : (kind : Kind) (value : List ℕ) → hasLarge kind value ≡ false
     → (i : ℕ) → i < readingCount kind → word32 (readingsOf kind value) (i * 4) ≤ mostReading
-tested kind value e = first-large (readingsOf kind value) (readingCount kind) (ltb-false _ _ e)
+tested kind value e i h =
+    let readings = readingsOf kind value in
+    let n = readingCount kind in
+    none-large readings n i (le-antisymm (first-bound readings n) (ltb-false (firstLarge readings n) n e)) h
 
 -- A line for each kind of point.
-module _ (h : Head) (marks : List ℕ) (slot : h .slot ≤ 34) (losses : T (noneOf (λ loss. ltb mostLoss loss) (h .losses))) where
+module _ (h : Head) (marks : List ℕ) (slot : h .slot ≤ 34) (losses : (i : ℕ) → getD (h .losses) i 0 ≤ mostLoss) where
   small-by : (kind : Kind) (value : List ℕ) → isUnfit kind value ≡ false → hasLarge kind value ≡ false
       → T (noneOf (λ q. isBeyond mostResult (rounded q)) (quotients h marks kind value))
   unfolding quotients any
   small-by consumer value fit large = none-run (λ q. isBeyond mostResult (rounded q)) _ 0 6 λ j hj.
-      no-ltb (consumer-small (lossOf h value) _ _ (loss-small (h .losses) _ losses)
+      no-ltb (consumer-small (lossOf h value) _ _ (losses _)
       (baseline-small (readingsOf consumer value) (tested consumer value large) (testDay h) marks (h .slot) (0 + j) slot (omega arith))
       (reading-small (readingsOf consumer value) (tested consumer value large) 0 (h .slot + (0 + j)) (omega arith) (omega arith)))
   small-by generator value fit large = none-run (λ q. isBeyond mostResult (rounded q)) _ 0 6 λ j hj.
@@ -131,9 +122,6 @@ six-by h marks generator value e = run-length _ 0 6
 six-by h marks unknown value e = absurd (true≢false e)
 
 -- a row's test as a fact
-pub failed : (test : Bool) → test ≡ false → T (not test)
-failed test e = rw e tt
-
 pub passed : (test : Bool) → not test ≡ false → T test
 passed test e = rw (not-false test e) tt
 
@@ -149,8 +137,8 @@ module _ (h : Head) (marks : List ℕ) (sound : contentRefusal h marks ≡ 0) wh
       let t = and-yes (leb 18 (h .slot)) _ (passed (leb 18 (h .slot) && leb (h .slot) 34) (content-clear h marks sound .1 .1 .0)) in
       (leb-yes (t .0), leb-yes (t .1))
 
-  pub losses-small : T (noneOf (λ loss. ltb mostLoss loss) (h .losses))
-  losses-small = failed _ (content-clear h marks sound .1 .1 .1 .0)
+  pub losses-small : (i : ℕ) → getD (h .losses) i 0 ≤ mostLoss
+  losses-small i = ltb-false _ _ (any-none (λ loss. ltb mostLoss loss) 0 refl (h .losses) (content-clear h marks sound .1 .1 .1 .0) i)
 
 module _ (h : Head) (marks : List ℕ) (points : ℕ) (last : List ℕ) (tag : ℕ) (value : List ℕ) (places : ℕ)
     (accepted : pointRefusal h marks points last tag value places ≡ 0) where
@@ -169,3 +157,6 @@ module _ (h : Head) (marks : List ℕ) (points : ℕ) (last : List ℕ) (tag : �
   results-small e = rw any-map
       (small-by h marks (slot-range h marks e .1) (losses-small h marks e) (kindOf tag) value
       (point-clear .1 .1 .1 .1 .1 .1 .0) (point-clear .1 .1 .1 .1 .1 .1 .1 .0))
+
+  pub result-small : contentRefusal h marks ≡ 0 → (j : ℕ) → natAbs (getD (results h marks (kindOf tag) value) j (pos 0)) ≤ mostResult
+  result-small e j = ltb-false _ _ (any-none (isBeyond mostResult) (pos 0) refl (results h marks (kindOf tag) value) (no-false _ (results-small e)) j)

@@ -19,9 +19,9 @@ use Rattle.ledger.specs.Points.{Point, Kind, consumer, generator, unknow
 use Rattle.ledger.specs.Account.{partsOfWh}
 use Rattle.ledger.specs.Demand3.{divisionsBy, divisions, allQuotients}
 use Rattle.ledger.specs.declared.Head.{Head}
-use Rattle.ledger.proofs.Lists.{no-false, noneOf, every, every-run}
+use Rattle.ledger.proofs.Lists.{no-false, every, every-run}
 use Rattle.ledger.proofs.Rounding.{whole, goesInto}
-use Rattle.ledger.proofs.Bounds.{loss-small, passed}
+use Rattle.ledger.proofs.Bounds.{passed}
 
 -- ---- they go into the parts of a Wh
 
@@ -51,8 +51,8 @@ goes-by h marks unknown value fit = tt
 parts-pos : (a b c : ℕ) → 0 < a → 0 < b → 0 < c → 0 < 24 * (a * b * c)
 parts-pos a b c p q r = omega (arith, mul-pos (mul-pos p q) r)
 
-pub wh-pos : (h : Head) → T (noneOf (λ loss. ltb mostLoss loss) (h .losses)) → 0 < partsOfWh h
-wh-pos h t = parts-pos _ _ _ (omega (arith, loss-small (h .losses) 0 t)) (omega (arith, loss-small (h .losses) 1 t)) (omega (arith, loss-small (h .losses) 2 t))
+pub wh-pos : (h : Head) → ((i : ℕ) → getD (h .losses) i 0 ≤ mostLoss) → 0 < partsOfWh h
+wh-pos h small = parts-pos _ _ _ (omega (arith, small 0)) (omega (arith, small 1)) (omega (arith, small 2))
 
 -- ---- a division that is not listed leaves no remainder
 

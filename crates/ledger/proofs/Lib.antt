@@ -2,7 +2,6 @@ pub mod Examples
 pub mod Lists
 pub mod Sums
 pub mod Rounding
-pub mod Days
 pub mod Bounds
 pub mod Divisors
 pub mod Sound

@@ -42,11 +42,6 @@ module _ {A : Type 0} (test : A → Bool) where
   none-run f i (suc n) p = none-cons (f i) (run f (suc i) n) .1
       (rw add-zero at (p zero (zero-lt-suc n)), none-run f (suc i) n λ j h. rw (suc-add, ← add-suc) (p (suc j) (suc-le-suc-iff .1 h)))
 
-  pub none-at : (xs : List A) → T (noneOf test xs) → (i : ℕ) (z : A) → i < length xs → T (not (test (getD xs i z)))
-  none-at [] t i z h = absurd (omega arith)
-  none-at (x ∷ xs) t zero z h = none-cons x xs .0 t .0
-  none-at (x ∷ xs) t (suc i) z h = none-at xs (none-cons x xs .0 t .1) i z (suc-le-suc-iff .0 h)
-
 pub any-map : {A B : Type 0} (test : B → Bool) (f : A → B) (xs : List A) → any test (map f xs) ≡ any (λ x. test (f x)) xs
 unfolding any
 any-map test f [] = refl
