@@ -67,11 +67,11 @@ unlisted h marks consumer value = refl
 unlisted h marks generator value = sym (no-false _ (every-run whole _ 0 6 λ j hj. generator-whole (baselineOf value) (word32 (readingsOf generator value) ((0 + j) * 4))))
 unlisted h marks unknown value = refl
 
-bads : (h : Head) (marks : List ℕ) (points : List Point)
+unlisted-all : (h : Head) (marks : List ℕ) (points : List Point)
     → any (λ q. not (whole q)) (divisions h marks points) ≡ any (λ q. not (whole q)) (allQuotients h marks points)
 unfolding gather
-bads h marks [] = refl
-bads h marks (p ∷ points) = simp any-append (rw (unlisted h marks (kindOf (p .tag)) (p .value), bads h marks points))
+unlisted-all h marks [] = refl
+unlisted-all h marks (p ∷ points) = simp any-append (rw (unlisted h marks (kindOf (p .tag)) (p .value), unlisted-all h marks points))
 
 pub wholes : (h : Head) (marks : List ℕ) (points : List Point) → every whole (divisions h marks points) ≡ every whole (allQuotients h marks points)
-wholes h marks points = ap not (bads h marks points)
+wholes h marks points = ap not (unlisted-all h marks points)
