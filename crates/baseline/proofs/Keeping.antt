@@ -1,14 +1,13 @@
 -- Days that a loop keeps one after the other. Assumes nothing.
 use mathlib.Core.Path.{_≡_, refl, sym, ap, _∙_}
 use mathlib.Core.Bool.{Bool, true, false}
-use mathlib.Core.List.{List, [], _∷_, _++_, map, append-nil}
-use Prim.Native.Nat.{ℕ, _+_, _*_, _<_, _≤_}
-use native.Mathlib.Nat.{add-zero, zero-add, add-assoc, mul-suc}
+use mathlib.Core.List.{List, [], _∷_, _++_, append-nil}
+use Prim.Native.Nat.{ℕ, _+_, _<_, _≤_}
 use native.Mathlib.Numerals.{add-one}
 use native.Mathlib.Omega.{arith}
 use lib.ListN.{length, getD, set, take, drop, length-append, take-append-drop}
 use lib.Seq.{take-suc, take-suc-set}
-use Rattle.numbers.specs.Lists.{sum, filter}
+use Rattle.numbers.specs.Lists.{filter}
 use Rattle.numbers.proofs.Filling.{filter-append}
 
 module _ (test : ℕ → Bool) (days : List ℕ) (i : ℕ) where
@@ -34,13 +33,3 @@ keep-room test days i h e =
 -- one day more in the first places of an array
 pub put-day : (places held : List ℕ) (n d : ℕ) → n < length places → take n places ≡ held → take (n + 1) (set places n d) ≡ held ++ d ∷ []
 put-day places held n d h e = rw (add-one, ← e) (take-suc-set places n d h)
-
-pub sum-days : (w : ℕ → ℕ) (xs : List ℕ) (d : ℕ) → sum (map w (xs ++ d ∷ [])) ≡ sum (map w xs) + w d
-unfolding sum
-sum-days w [] d = rw (add-zero, zero-add)
-sum-days w (x ∷ xs) d = rw (sum-days w xs d, add-assoc)
-
-pub days-below : (w : ℕ → ℕ) (b : ℕ) → ((d : ℕ) → w d ≤ b) → (days : List ℕ) → sum (map w days) ≤ b * length days
-unfolding sum
-days-below w b h [] = omega arith
-days-below w b h (d ∷ days) = rw mul-suc (omega (arith, h d, days-below w b h days))

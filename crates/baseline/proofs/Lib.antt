@@ -1,3 +1,5 @@
+pub mod Sums
+pub mod Large
 pub mod Rising
 pub mod Flags
 pub mod Keeping
@@ -5,5 +7,4 @@ pub mod Rounds
 pub mod Walking
 pub mod Lowest
 pub mod Choices
-pub mod Large
-pub mod Sums
+pub mod Bounds

@@ -15,7 +15,8 @@ use Rattle.baseline.specs.Days.{daysFrom, Rising, none, next, Holds}
 use Rattle.baseline.specs.declared.choosing.Round.{Round}
 use Rattle.baseline.proofs.Rising.{rising-farther, rising-append, rising-filter}
 use Rattle.baseline.proofs.Flags.{further, further-yes, further-no, further-end}
-use Rattle.baseline.proofs.Keeping.{put-day, sum-days, days-below}
+use Rattle.baseline.proofs.Keeping.{put-day}
+use Rattle.baseline.proofs.Sums.{sum-days, days-within}
 use Rattle.baseline.proofs.Rounds.{round-length, days-run-out, none-dropped, some-dropped}
 
 -- Before place k: the first `count` of the five places hold the days in hand. Those that stand in the end are those that stand of the
@@ -40,7 +41,7 @@ module _ {sums : List ℕ} {eligible : List Bool} {days : List ℕ} {count all k
   at-place = ap (λ i. getD sums i 0) (let e : k + 1 - 1 ≡ k = omega arith in e)
 
   pub bounded : (b : ℕ) → ((i : ℕ) → getD sums i 0 ≤ b) → all ≤ b * count
-  bounded b h = rw (here .total) (rw in-hand at (days-below (ofDay sums) b (λ d. h (d - 1)) (take count days)))
+  bounded b h = rw (here .total) (rw in-hand at (days-within (ofDay sums) b (take count days) (λ i l. h (getD (take count days) i 0 - 1))))
 
   -- an eligible day
   pub taken : k < length eligible → count < 5 → getD eligible k false ≡ true

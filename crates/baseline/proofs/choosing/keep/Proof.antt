@@ -14,7 +14,8 @@ use Rattle.numbers.specs.Lists.{sum, filter}
 use Rattle.calendar.specs.Eligible.{ofDay}
 use Rattle.baseline.specs.Days.{Rising}
 use Rattle.baseline.proofs.Rising.{rising-at}
-use Rattle.baseline.proofs.Keeping.{keep-yes, keep-no, put-day, sum-days, days-below}
+use Rattle.baseline.proofs.Keeping.{keep-yes, keep-no, put-day}
+use Rattle.baseline.proofs.Sums.{sum-days, days-within}
 use Rattle.baseline.proofs.choosing.keep.Statement.{statement}
 use Rattle.baseline.proofs.choosing.keep.Tie as tie
 use Rattle.baseline.proofs.choosing.keep.Reads as reads
@@ -72,7 +73,7 @@ add-left c =
     let s = c .before .before .before .before in
     let l = c .before .before .before .loop in
     let held = filter (stays (s .args .sums .now) (s .args .all)) (take (l .i) (s .args .t1)) in
-    omega (arith, s .pre .1 (getD (s .args .t1) (l .i) 0 - 1), days-below (ofDay (s .args .sums .now)) 6000000000 (λ d. s .pre .1 (d - 1)) held)
+    omega (arith, s .pre .1 (getD (s .args .t1) (l .i) 0 - 1), days-within (ofDay (s .args .sums .now)) 6000000000 held (λ i h. s .pre .1 (getD held i 0 - 1)))
 
 add-i : tie.Need-add-i Inv-loop μ-loop
 add-i c = search needs
