@@ -25,7 +25,7 @@ use Rattle.ledger.specs.declared.Figures.{Figures}
 use Rattle.ledger.proofs.Lists.{every, none-append, gather-append}
 use Rattle.ledger.proofs.Sums.{sum-append, taken-total, length-plus}
 use Rattle.ledger.proofs.Rounding.{whole, compared}
-use Rattle.ledger.proofs.Bounds.{six-quotients, six-results, losses-small, point-clear}
+use Rattle.ledger.proofs.Bounds.{opens, takes, six-quotients, six-results}
 use Rattle.ledger.proofs.Divisors.{goes-by, wh-pos, wholes}
 use Rattle.ledger.proofs.Sound.{Sound, open-good, open-bad, opened-sound, add-good, add-bad, adding-sound, taken-sound, close-good, close-bad, closing-sound, nothing-taken, nothing-closed}
 
@@ -60,9 +60,9 @@ module _ (h : Head) (marks : List ℕ) where
   unfolding taken keepsFractions
   along-taken points last totals sum ps tag value places e a =
       let more = one-more ps (record { tag = tag; value = value }) in
-      let results-six = six-results h marks points last tag value places e in
-      let quotients-six = six-quotients h marks points last tag value places e in
-      let c = point-clear h marks points last tag value places e in
+      let t = takes h marks points last tag value places e in
+      let results-six = six-results t in
+      let quotients-six = six-quotients t in
       record {
         sound = taken-sound (stateOf points last totals) (a .sound) tag value places e;
         count = simp length-append (omega arith);
@@ -70,7 +70,7 @@ module _ (h : Head) (marks : List ℕ) where
         total = taken-total (stateOf points last totals) _ (numberOf value) (a .six ∙ sym results-six) ∙ rw (a .total, more, sum-append);
         exact = rw (a .exact, more, sum-append);
         sixes = rw more (simp length-append (omega arith));
-        kept = rw more (none-append _ (allQuotients h marks ps) _ .1 (a .kept, goes-by h marks (kindOf tag) value (c .1 .1 .1 .1 .1 .1 .0)));
+        kept = rw more (none-append _ (allQuotients h marks ps) _ .1 (a .kept, goes-by h marks (kindOf tag) value (t .fit)));
       }
 
   -- ---- an accepted closing
@@ -91,7 +91,7 @@ module _ (h : Head) (marks : List ℕ) where
       → Accurate h marks ps (figuresOf (h .contract) totals points) (exactShortfall (accountOf points last sum))
   unfolding figuresOf keepsFractions
   accurate points last totals sum ps a =
-      let c = compared (partsOfWh h) (partsOfkW h) (partsOfWatt h) (length ps) (h .contract) (wh-pos h (losses-small h marks (a .sound .content)))
+      let c = compared (partsOfWh h) (partsOfkW h) (partsOfWatt h) (length ps) (h .contract) (wh-pos h (opens h marks (a .sound .content)))
       (kW-is (product h)) (watt-is (product h)) (allQuotients h marks ps) (a .kept) (a .sixes) in
       record {
         counted = a .count;

@@ -5,9 +5,7 @@ use mathlib.Core.Bool.{Bool, true, false, not, _||_}
 use mathlib.Core.List.{List, [], _∷_, _++_, map, append-assoc}
 use Prim.Native.Nat.{ℕ, zero, suc, _+_, _<_}
 use native.Mathlib.Nat.{add-zero, add-suc, suc-add, zero-lt-suc, suc-le-suc-iff}
-use native.Mathlib.Omega.{arith}
 use lib.Dec.{T}
-use lib.ListN.{length, getD}
 use Rattle.numbers.specs.Lists.{run, any, gather}
 use Rattle.numbers.proofs.Filling.{any-append}
 

@@ -9,8 +9,8 @@ use native.Mathlib.Omega.{arith}
 use lib.Dec.{T, ltb, eqb}
 use lib.IntN.{ℤ, _+ℤ_}
 use lib.ListN.{length}
-use mir.Facts.{and-yes, ltb-no, no-ltb, eqb-yes, no-eqb}
-use borrow.Author.Tests.{eqb-true, eq-eqb, ne-eqb, leb-false, not-false}
+use mir.Facts.{ltb-no, no-ltb, eqb-yes, no-eqb}
+use borrow.Author.Tests.{eqb-true, eq-eqb, ne-eqb, not-false}
 use Rattle.numbers.specs.Lists.{any}
 use Rattle.numbers.specs.Refusals.{firstOf}
 use Rattle.numbers.specs.PointNumbers.{isNumber}
@@ -31,7 +31,7 @@ use Rattle.ledger.specs.declared.Opened.{Opened}
 use Rattle.ledger.specs.declared.Added.{Added}
 use Rattle.ledger.specs.declared.Closed.{Closed}
 use Rattle.ledger.proofs.Lists.{noneOf, none-cons, no-false}
-use Rattle.ledger.proofs.Bounds.{isBeyond, passed, point-clear, results-small}
+use Rattle.ledger.proofs.Bounds.{both, opens, takes, isBeyond, results-small}
 
 -- ---- the answers of the operations, by the refusal
 
@@ -123,7 +123,7 @@ module _ (head calendar : List ℕ) (accepted : openingRefusal head calendar ≡
 
   pub opening-lengths : (length head ≡ 17) × (length calendar ≡ 30)
   opening-lengths =
-      let t = and-yes (eqb (length head) 17) (eqb (length calendar) 30) (passed (eqb (length head) 17 && eqb (length calendar) 30) (opening-clear .0)) in
+      let t = both (eqb (length head) 17) (eqb (length calendar) 30) (opening-clear .0) in
       (eqb-yes (t .0), eqb-yes (t .1))
 
   pub opening-content : contentRefusal (headOf head) calendar ≡ 0
@@ -160,13 +160,13 @@ module _ (state : State) (s : Sound state) (tag : ℕ) (value : List ℕ) (place
   unfolding taken
   taken-sound e =
       let more : mostResult * (state .points + 1) ≡ mostResult * state .points + mostResult = omega arith in
-      let c = point-clear (state .head) (state .marks) (state .points) (state .last) tag value places e in
+      let t = takes (state .head) (state .marks) (state .points) (state .last) tag value places e in
       record {
         content = s .content;
-        room = omega (arith, leb-false (state .head .count) (state .points) (c .0));
+        room = omega arith;
         totals = rw more (plus-small (mostResult * state .points) mostResult (state .totals) (resultsOf state tag value) (s .totals)
-            (results-small (state .head) (state .marks) (state .points) (state .last) tag value places e (s .content)));
-        last = shown (ltb 0 (state .points + 1)) (isNumber (numberOf value)) (passed (isNumber (numberOf value)) (c .1 .1 .1 .1 .0));
+            (results-small t (opens (state .head) (state .marks) (s .content))));
+        last = shown (ltb 0 (state .points + 1)) (isNumber (numberOf value)) (t .number);
       }
 
   -- adding keeps it
