@@ -2,17 +2,16 @@
 use mathlib.Core.Path.{_≡_, refl, sym, ap, _∙_}
 use mathlib.Core.Bool.{true, false}
 use mathlib.Core.List.{List, [], _∷_}
-use Prim.Native.Nat.{ℕ, zero, suc, _<_, _≤_}
+use Prim.Native.Nat.{ℕ, _<_, _≤_}
 use native.Mathlib.Omega.{arith}
 use lib.ListN.{length, getD, take, drop, replicate}
 use lib.Seq.{take-all}
 use borrow.Author.Tests.{lt-ltb, le-ltb}
-use Rattle.numbers.specs.Lists.{run}
 use Rattle.baseline.specs.Choosing.{standing, lowest, used, chosen}
 use Rattle.baseline.specs.Days.{Rising, Holds, choice}
 use Rattle.baseline.specs.declared.choosing.Round.{Round}
 use Rattle.baseline.proofs.Rising.{without}
-use Rattle.baseline.proofs.Rounds.{standing-length, standing-rising}
+use Rattle.baseline.proofs.Rounds.{standing-rising}
 use Rattle.baseline.proofs.Lowest.{used-five, used-fewer, four-left}
 
 few-chosen : (days : List ℕ) → length days < 4 → choice days ≡ record { enough = false; days = replicate 4 0 }

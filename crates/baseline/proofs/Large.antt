@@ -1,5 +1,5 @@
 -- The first reading that is too large. Assumes nothing.
-use mathlib.Core.Path.{_≡_, refl, sym, ap, _∙_}
+use mathlib.Core.Path.{_≡_, refl, ap, _∙_}
 use mathlib.Core.Bool.{Bool, true, false, cond}
 use mathlib.Core.List.{List}
 use Prim.Native.Nat.{ℕ, zero, suc, _+_, _-_, _*_, _<_, _≤_}
@@ -76,7 +76,7 @@ module _ (readings : List ℕ) where
 
   -- one that is too large among n readings
   pub one-large : (n i j : ℕ) → j < n → mostReading < word32 readings ((i + j) * 4) → eqb (from i n) n ≡ false
-  one-large n i j h l = ne-eqb _ _ (λ e. omega (arith, in-limit n i j e h))
+  one-large n i j h l = ne-eqb (from i n) n (λ e. omega (arith, in-limit n i j e h))
 
   -- WHAT NO TOO LARGE READING MEANS: each is within the limit.
   pub none-large : (n i : ℕ) → firstLarge readings n ≡ n → i < n → word32 readings (i * 4) ≤ mostReading

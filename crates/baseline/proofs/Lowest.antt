@@ -1,16 +1,15 @@
 -- The lowest of five days goes. Assumes nothing.
-use mathlib.Core.Path.{_≡_, refl, sym, ap, _∙_}
+use mathlib.Core.Path.{_≡_, refl, ap}
 use mathlib.Core.Bool.{Bool, true, false, cond}
-use mathlib.Core.List.{List, [], _∷_, _++_}
-use Prim.Native.Nat.{ℕ, zero, suc, _+_, _<_, _≤_}
+use mathlib.Core.List.{List, [], _∷_}
+use Prim.Native.Nat.{ℕ, suc, _+_, _<_, _≤_}
 use native.Mathlib.Numerals.{add-one}
 use native.Mathlib.Omega.{arith}
 use lib.Dec.{leb, eqb}
 use lib.ListN.{length, getD, drop, drop-of-length-le}
 use lib.Seq.{drop-cons}
 use borrow.Author.Tests.{le-leb, lt-leb, eq-eqb, ne-eqb, eqb-true, eqb-false}
-use Rattle.numbers.specs.Lists.{filter}
-use Rattle.baseline.specs.Choosing.{lowest, used, standing, chosen}
+use Rattle.baseline.specs.Choosing.{lowest, used, chosen}
 use Rattle.baseline.specs.Days.{Rising, none, next}
 use Rattle.baseline.proofs.Rising.{In, here, there, without, without-length, rising-filter}
 use Rattle.baseline.proofs.Rounds.{standing-length, standing-rising}

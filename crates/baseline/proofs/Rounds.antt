@@ -1,14 +1,14 @@
 -- The walk, round by round. Assumes nothing.
-use mathlib.Core.Path.{_≡_, refl, sym, ap, _∙_}
+use mathlib.Core.Path.{_≡_, refl, _∙_}
 use mathlib.Core.Bool.{Bool, true, false, cond}
-use mathlib.Core.List.{List, [], _∷_, _++_, map}
-use Prim.Native.Nat.{ℕ, zero, suc, _+_, _*_, _<_, _≤_}
+use mathlib.Core.List.{List, [], _∷_, _++_}
+use Prim.Native.Nat.{ℕ, zero, suc, _<_, _≤_}
 use native.Mathlib.Omega.{arith}
 use lib.Dec.{ltb, eqb}
 use lib.ListN.{length, take, drop, length-append, length-take, length-drop}
 use lib.Seq.{take-at, drop-at, length-take-le}
 use borrow.Author.Tests.{eq-eqb, ne-eqb, lt-ltb, le-ltb, ltb-true, ltb-false, eqb-false}
-use Rattle.numbers.specs.Lists.{sum, filter}
+use Rattle.numbers.specs.Lists.{filter}
 use Rattle.baseline.specs.Choosing.{round, walk, standing}
 use Rattle.baseline.specs.Days.{Rising}
 use Rattle.baseline.proofs.Rising.{rising-filter, rising-append, rising-split, rising-take}

@@ -2,7 +2,7 @@
 use mathlib.Core.Path.{_≡_, refl, sym, ap, _∙_}
 use mathlib.Core.Bool.{Bool, true, false, not}
 use mathlib.Core.List.{List, [], _∷_, _++_, map, append-nil}
-use Prim.Native.Nat.{ℕ, zero, suc, _+_, _*_, _-_, _<_, _≤_}
+use Prim.Native.Nat.{ℕ, _+_, _*_, _-_, _<_, _≤_}
 use native.Mathlib.Nat.{le-refl}
 use native.Mathlib.Omega.{arith}
 use lib.Dec.{ltb}
@@ -48,7 +48,7 @@ module _ {sums : List ℕ} {eligible : List Bool} {days : List ℕ} {count all k
       → Here sums eligible (set days count (k + 1)) (count + 1) (all + getD sums k 0) (k + 1)
   taken h n e =
       let more : take (count + 1) (set days count (k + 1)) ≡ take count days ++ (k + 1) ∷ []
-          = put-day days (take count days) count (k + 1) (omega arith) refl
+      = put-day days (take count days) count (k + 1) (omega arith) refl
       in
       record {
         places = length-set days count (k + 1) ∙ here .places;
@@ -73,7 +73,7 @@ module _ {sums : List ℕ} {eligible : List Bool} {days : List ℕ} {count all k
       → Holds (ofDay sums) (standing (ofDay sums) (daysFrom 1 eligible)) (record { days = days; count = count; all = all })
   ran-out h n =
       let e : standing (ofDay sums) (daysFrom 1 eligible) ≡ take count days
-          = (rw (further-end eligible k h, append-nil) at (here .same)) ∙ days-run-out (ofDay sums) (take count days) (rw in-hand n)
+      = (rw (further-end eligible k h, append-nil) at (here .same)) ∙ days-run-out (ofDay sums) (take count days) (rw in-hand n)
       in
       rw e (record { places = here .places; count = sym in-hand; held = refl; all = here .total })
 

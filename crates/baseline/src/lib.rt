@@ -12,8 +12,8 @@ pub mod choosing;
 pub mod readings;
 
 use calendar::eligible_days;
-use choosing::choose;
 use choosing::Chosen;
+use choosing::choose;
 use readings::window_sums;
 
 // The four days of a consumer, for the count of the test day.

@@ -3,9 +3,6 @@ use native.Mathlib.Omega.{arith}
 use borrow.Author.Needs.{needs}
 use Rattle.baseline.proofs.baseline_of.Statement.{statement}
 use Rattle.baseline.proofs.baseline_of.Tie as tie
-use Rattle.baseline.proofs.baseline_of.Reads as reads
-use Rattle.baseline.proofs.baseline_of.Lts as lts
-use Rattle.baseline.proofs.sum_of_six.Reads as sum-of-six-reads
 
 array-copy-out-earlier-sums : tie.Need-array-copy-out-earlier-sums
 array-copy-out-earlier-sums c = search needs

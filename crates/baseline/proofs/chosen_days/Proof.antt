@@ -1,6 +1,5 @@
 -- `chosen_days` meets its contract. Assumes nothing.
-use mathlib.Core.Path.{_≡_, sym, ap, _∙_}
-use lib.ListN.{getD}
+use mathlib.Core.Path.{_≡_, _∙_}
 use borrow.Author.Needs.{needs}
 use Rattle.calendar.specs.Eligible.{isEligible}
 use Rattle.baseline.specs.Baseline.{chosenDays}
@@ -9,11 +8,6 @@ use Rattle.baseline.proofs.Flags.{flags-filter}
 use Rattle.baseline.proofs.Bounds.{window-sums-bound, chosen-days-back, choice-back}
 use Rattle.baseline.proofs.chosen_days.Statement.{statement}
 use Rattle.baseline.proofs.chosen_days.Tie as tie
-use Rattle.baseline.proofs.chosen_days.Reads as reads
-use Rattle.baseline.proofs.chosen_days.Lts as lts
-use Rattle.baseline.proofs.choosing.choose.Reads as choose-reads
-use Rattle.baseline.proofs.readings.window_sums.Reads as window-sums-reads
-use Rattle.calendar.proofs.eligible_days.Reads as eligible-days-reads
 
 eligible-days-requires : tie.Need-eligible-days-requires
 eligible-days-requires c κs = search needs

@@ -4,8 +4,6 @@ use borrow.Author.Needs.{needs}
 use Rattle.baseline.proofs.Sums.{six-places}
 use Rattle.baseline.proofs.sum_of_six.Statement.{statement}
 use Rattle.baseline.proofs.sum_of_six.Tie as tie
-use Rattle.baseline.proofs.sum_of_six.Reads as reads
-use Rattle.baseline.proofs.sum_of_six.Lts as lts
 
 array-read-result : tie.Need-array-read-result
 array-read-result c = search needs

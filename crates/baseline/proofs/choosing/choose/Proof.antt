@@ -2,18 +2,12 @@
 use mathlib.Core.Path.{sym, ap, _∙_}
 use mathlib.Core.Bool.{true}
 use native.Mathlib.Omega.{arith}
-use Rattle.calendar.specs.Eligible.{ofDay}
 use Rattle.baseline.specs.Days.{daysFrom}
 use Rattle.baseline.proofs.Flags.{flags-rising}
 use Rattle.baseline.proofs.Choices.{none-enough, all-four, five-rising, lowest-goes}
 use borrow.Author.Needs.{needs}
 use Rattle.baseline.proofs.choosing.choose.Statement.{statement}
 use Rattle.baseline.proofs.choosing.choose.Tie as tie
-use Rattle.baseline.proofs.choosing.choose.Reads as reads
-use Rattle.baseline.proofs.choosing.choose.Lts as lts
-use Rattle.baseline.proofs.choosing.lowest_of.Reads as lowest-of-reads
-use Rattle.baseline.proofs.choosing.walk.Reads as walk-reads
-use Rattle.baseline.proofs.choosing.without.Reads as without-reads
 
 walk-requires : tie.Need-walk-requires
 walk-requires c κs = search needs

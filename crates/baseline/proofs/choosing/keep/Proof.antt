@@ -3,7 +3,7 @@ use mathlib.Core.Path.{_≡_, refl, sym, ap, _∙_}
 use mathlib.Core.Bool.{Bool, not}
 use mathlib.Core.List.{List, [], _∷_, map}
 use mathlib.Core.Logic.{⊎-elim}
-use Prim.Native.Nat.{ℕ, _≤_, _<_, _-_, _+_, _*_}
+use Prim.Native.Nat.{ℕ, _≤_, _-_, _*_}
 use native.Mathlib.Omega.{arith}
 use lib.Dec.{ltb}
 use lib.ListN.{length, getD, take, length-set, length-append}
@@ -12,14 +12,11 @@ use borrow.Author.Needs.{needs}
 use borrow.Author.Tests.{lt-ltb, le-ltb}
 use Rattle.numbers.specs.Lists.{sum, filter}
 use Rattle.calendar.specs.Eligible.{ofDay}
-use Rattle.baseline.specs.Days.{Rising}
 use Rattle.baseline.proofs.Rising.{rising-at}
 use Rattle.baseline.proofs.Keeping.{keep-yes, keep-no, put-day}
 use Rattle.baseline.proofs.Sums.{sum-days, days-within}
 use Rattle.baseline.proofs.choosing.keep.Statement.{statement}
 use Rattle.baseline.proofs.choosing.keep.Tie as tie
-use Rattle.baseline.proofs.choosing.keep.Reads as reads
-use Rattle.baseline.proofs.choosing.keep.Lts as lts
 
 -- a day that stays
 abbrev stays : List ℕ → ℕ → ℕ → Bool

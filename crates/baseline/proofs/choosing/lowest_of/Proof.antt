@@ -1,23 +1,16 @@
 -- `lowest_of` meets its contract. The invariant: the lowest of all is the lowest of `low` and of the days from place i on. Assumes nothing.
-use mathlib.Core.Path.{_≡_, refl, sym, ap, _∙_}
-use mathlib.Core.Bool.{Bool, not}
-use mathlib.Core.List.{List, [], _∷_}
+use mathlib.Core.Path.{_≡_, refl, sym, _∙_}
 use mathlib.Core.Logic.{⊎-elim}
-use Prim.Native.Nat.{ℕ, _≤_, _<_, _-_, _+_}
+use Prim.Native.Nat.{_≤_, _<_, _-_}
 use native.Mathlib.Omega.{arith}
-use lib.Dec.{eqb}
-use lib.ListN.{length, getD, take, drop, length-set, length-append}
-use lib.Seq.{take-all}
+use lib.ListN.{getD, drop}
 use borrow.Author.Needs.{needs}
-use borrow.Author.Tests.{eq-eqb, ne-eqb}
 use Rattle.calendar.specs.Eligible.{ofDay}
 use Rattle.baseline.specs.Choosing.{lowest}
 use Rattle.baseline.proofs.Rising.{rising-at}
 use Rattle.baseline.proofs.Lowest.{lower, not-lower, lowest-end}
 use Rattle.baseline.proofs.choosing.lowest_of.Statement.{statement}
 use Rattle.baseline.proofs.choosing.lowest_of.Tie as tie
-use Rattle.baseline.proofs.choosing.lowest_of.Reads as reads
-use Rattle.baseline.proofs.choosing.lowest_of.Lts as lts
 
 abbrev Inv-loop : tie.InvT-loop
 Inv-loop sums days low₀ i₀ low i =

@@ -1,17 +1,14 @@
 -- `walk` meets its contract. Both loops keep what `Here` says of the days in hand; each round but the last goes to a farther place.
 -- Assumes nothing.
-use mathlib.Core.Path.{_≡_, refl, sym, ap, _∙_}
+use mathlib.Core.Path.{refl}
 use mathlib.Core.Logic.{⊎-elim}
-use Prim.Native.Nat.{ℕ, _≤_, _<_, _-_, _+_, _*_}
+use Prim.Native.Nat.{_≤_, _<_, _-_, _+_}
 use native.Mathlib.Omega.{arith}
 use borrow.Author.Needs.{needs}
 use Rattle.baseline.proofs.Rising.{rising-farther}
 use Rattle.baseline.proofs.Walking.{Here, begin, bounded, taken, passed, ran-out, five-rising, stopped, went-on}
 use Rattle.baseline.proofs.choosing.walk.Statement.{statement}
 use Rattle.baseline.proofs.choosing.walk.Tie as tie
-use Rattle.baseline.proofs.choosing.walk.Reads as reads
-use Rattle.baseline.proofs.choosing.walk.Lts as lts
-use Rattle.baseline.proofs.choosing.keep.Reads as keep-reads
 
 abbrev Inv-loop : tie.InvT-loop
 Inv-loop sums eligible days₀ count₀ all₀ k₀ days count all k = (k ≤ 30) × (count + k₀ ≤ count₀ + k) × Here sums eligible days count all k

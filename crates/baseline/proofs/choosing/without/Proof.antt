@@ -1,12 +1,12 @@
 -- `without` meets its contract. The invariant: the first `count` places hold those of the first i days. Assumes nothing.
 use mathlib.Core.Path.{_≡_, refl, sym, ap, _∙_}
 use mathlib.Core.Bool.{Bool, true, not}
-use mathlib.Core.List.{List, [], _∷_}
+use mathlib.Core.List.{[], _∷_}
 use mathlib.Core.Logic.{⊎-elim}
-use Prim.Native.Nat.{ℕ, _≤_, _<_, _-_, _+_}
+use Prim.Native.Nat.{ℕ, _≤_, _-_}
 use native.Mathlib.Omega.{arith}
 use lib.Dec.{eqb}
-use lib.ListN.{length, getD, take, drop, length-set, length-append}
+use lib.ListN.{length, getD, take, length-set, length-append}
 use lib.Seq.{take-all}
 use borrow.Author.Needs.{needs}
 use borrow.Author.Tests.{eq-eqb, ne-eqb}
@@ -15,8 +15,6 @@ use Rattle.baseline.proofs.Rising.{without}
 use Rattle.baseline.proofs.Keeping.{keep-yes, keep-no, keep-room, put-day}
 use Rattle.baseline.proofs.choosing.without.Statement.{statement}
 use Rattle.baseline.proofs.choosing.without.Tie as tie
-use Rattle.baseline.proofs.choosing.without.Reads as reads
-use Rattle.baseline.proofs.choosing.without.Lts as lts
 
 abbrev other : ℕ → ℕ → Bool
 other low k = not (eqb k low)

@@ -1,12 +1,8 @@
 -- `day_sums` meets its contract. Assumes nothing.
-use mathlib.Core.Path.{_≡_, sym, _∙_}
 use borrow.Author.Needs.{needs}
 use Rattle.baseline.specs.Readings.{daySums}
 use Rattle.baseline.proofs.readings.day_sums.Statement.{statement}
 use Rattle.baseline.proofs.readings.day_sums.Tie as tie
-use Rattle.baseline.proofs.readings.day_sums.Reads as reads
-use Rattle.baseline.proofs.readings.day_sums.Lts as lts
-use Rattle.baseline.proofs.readings.slot_sums.Reads as slot-sums-reads
 
 slot-sums-requires : tie.Need-slot-sums-requires
 slot-sums-requires c κs = search needs

@@ -3,9 +3,6 @@ use borrow.Author.Needs.{needs}
 use Rattle.baseline.specs.Readings.{earlierUse}
 use Rattle.baseline.proofs.readings.earlier_use.Statement.{statement}
 use Rattle.baseline.proofs.readings.earlier_use.Tie as tie
-use Rattle.baseline.proofs.readings.earlier_use.Reads as reads
-use Rattle.baseline.proofs.readings.earlier_use.Lts as lts
-use Rattle.baseline.proofs.readings.window_sum.Reads as window-sum-reads
 
 sub-window-sum : tie.Need-sub-window-sum
 sub-window-sum c = search needs

@@ -1,19 +1,15 @@
 -- `first_large` meets its contract. The invariant: the first too large reading is the first from reading i on. Assumes nothing.
-use mathlib.Core.Path.{_≡_, refl, sym, ap, _∙_}
-use Prim.Native.Nat.{ℕ, _≤_, _<_, _-_, _+_, _*_}
+use mathlib.Core.Path.{_≡_, sym, _∙_}
+use Prim.Native.Nat.{_≤_, _-_, _+_, _*_}
 use native.Mathlib.Nat.{zero-add, sub-zero}
 use native.Mathlib.Omega.{arith}
-use lib.ListN.{length, drop}
+use lib.ListN.{length}
 use borrow.Author.Needs.{needs}
-use borrow.Author.Tests.{eq-eqb, eqb-true}
+use borrow.Author.Tests.{eqb-true}
 use Rattle.baseline.specs.Readings.{firstLarge}
 use Rattle.baseline.proofs.Large.{from, join, left-pass}
 use Rattle.baseline.proofs.readings.first_large.Statement.{statement}
 use Rattle.baseline.proofs.readings.first_large.Tie as tie
-use Rattle.baseline.proofs.readings.first_large.Reads as reads
-use Rattle.baseline.proofs.readings.first_large.Lts as lts
-use Rattle.baseline.proofs.readings.first_large_from.Reads as first-large-from-reads
-use Rattle.baseline.proofs.readings.four_fit.Reads as four-fit-reads
 
 abbrev Inv-loop : tie.InvT-loop
 Inv-loop readings n i₀ i =

@@ -1,18 +1,12 @@
 -- `first_large_from` meets its contract. The invariant: the first too large reading is the first from reading i on. Assumes nothing.
-use mathlib.Core.Path.{_≡_, refl, sym, ap, _∙_}
-use Prim.Native.Nat.{ℕ, _≤_, _<_, _-_, _+_, _*_}
-use native.Mathlib.Nat.{add-zero}
+use mathlib.Core.Path.{_≡_, refl, sym, _∙_}
+use Prim.Native.Nat.{_≤_, _-_, _+_, _*_}
 use native.Mathlib.Omega.{arith}
-use lib.ListN.{length, drop}
+use lib.ListN.{length}
 use borrow.Author.Needs.{needs}
-use borrow.Author.Tests.{eq-eqb, eqb-true}
-use Rattle.baseline.specs.Readings.{firstLarge}
 use Rattle.baseline.proofs.Large.{from, left-pass, left-stop, left-none, one-fits}
 use Rattle.baseline.proofs.readings.first_large_from.Statement.{statement}
 use Rattle.baseline.proofs.readings.first_large_from.Tie as tie
-use Rattle.baseline.proofs.readings.first_large_from.Reads as reads
-use Rattle.baseline.proofs.readings.first_large_from.Lts as lts
-use Rattle.numbers.proofs.word32_at.Reads as word32-at-reads
 
 abbrev Inv-loop : tie.InvT-loop
 Inv-loop readings start n i₀ i =
@@ -44,7 +38,9 @@ loop-less c = omega arith
 loop-again : tie.Need-loop-again Inv-loop μ-loop
 loop-again c =
     let l = c .before .before .before .loop in
-    let fits = one-fits _ (l .i) (rw (c .before .word32-at .ensures) at (c .if1 .left)) in
+    let fits : from (c .before .before .before .before .before .args .readings .now) (l .i) 1 ≡ 1
+    = one-fits _ (l .i) (rw (c .before .word32-at .ensures) at (c .if1 .left))
+    in
     (omega arith, l .inv .1, l .inv .2 ∙ left-pass _ (l .i) _ 1 (omega arith) fits)
 
 returns-2 : tie.Need-returns-2 Inv-loop μ-loop

@@ -1,18 +1,13 @@
 -- `four_fit` meets its contract: one reading that is too large decides, and four that fit. Assumes nothing.
-use mathlib.Core.Path.{_≡_, refl, sym, ap, _∙_}
-use Prim.Native.Nat.{ℕ, _≤_, _<_, _-_, _+_, _*_}
+use mathlib.Core.Path.{sym}
+use Prim.Native.Nat.{_+_}
 use native.Mathlib.Nat.{add-zero}
 use native.Mathlib.Omega.{arith}
-use lib.ListN.{length, drop}
 use borrow.Author.Needs.{needs}
-use borrow.Author.Tests.{eq-eqb, eqb-true}
-use Rattle.baseline.specs.Readings.{firstLarge}
+use borrow.Author.Tests.{eq-eqb}
 use Rattle.baseline.proofs.Large.{join, one-fits, one-large}
 use Rattle.baseline.proofs.readings.four_fit.Statement.{statement}
 use Rattle.baseline.proofs.readings.four_fit.Tie as tie
-use Rattle.baseline.proofs.readings.four_fit.Reads as reads
-use Rattle.baseline.proofs.readings.four_fit.Lts as lts
-use Rattle.numbers.proofs.word32_at.Reads as word32-at-reads
 
 mul-word32-at : tie.Need-mul-word32-at
 mul-word32-at c = search needs

@@ -1,16 +1,11 @@
 -- `six_from` meets its contract. Assumes nothing.
-use mathlib.Core.Path.{_≡_, sym, _∙_}
-use Prim.Native.Nat.{ℕ, _*_}
-use native.Mathlib.Omega.{arith}
+use mathlib.Core.Path.{sym, _∙_}
+use Prim.Native.Nat.{_*_}
 use borrow.Author.Needs.{needs}
 use Rattle.numbers.specs.Words.{word32}
 use Rattle.baseline.proofs.Sums.{six}
 use Rattle.baseline.proofs.readings.six_from.Statement.{statement}
 use Rattle.baseline.proofs.readings.six_from.Tie as tie
-use Rattle.baseline.proofs.readings.six_from.Reads as reads
-use Rattle.baseline.proofs.readings.six_from.Lts as lts
-use Rattle.baseline.proofs.readings.sum6.Reads as sum6-reads
-use Rattle.numbers.proofs.word32_at.Reads as word32-at-reads
 
 mul-word32-at : tie.Need-mul-word32-at
 mul-word32-at c = search needs
@@ -69,15 +64,16 @@ sum6-requires c κs = search needs
 returns : tie.Need-returns
 returns c =
     let a = c .before .before .before .before .before .before .before .before .args in
-    c .sum6 .ensures
-    ∙ rw (
+    rw (
+      c .sum6 .ensures,
       c .before .before .before .before .before .before .word32-at .ensures,
       c .before .before .before .before .before .word32-at2 .ensures,
       c .before .before .before .before .word32-at3 .ensures,
       c .before .before .before .word32-at4 .ensures,
       c .before .before .word32-at5 .ensures,
       c .before .word32-at6 .ensures,
-    ) (sym (six (λ i. word32 (a .readings .now) (i * 4)) (a .first)))
+      six (λ i. word32 (a .readings .now) (i * 4)) (a .first),
+    )
 
 pub six-from-spec : {M : Type 1} → statement M
 six-from-spec =

@@ -1,16 +1,11 @@
 -- `slot_sum` meets its contract. Assumes nothing.
-use mathlib.Core.Path.{_≡_, sym, _∙_}
-use Prim.Native.Nat.{ℕ}
+use mathlib.Core.Path.{sym, _∙_}
 use native.Mathlib.Omega.{arith}
 use borrow.Author.Needs.{needs}
 use Rattle.baseline.specs.Readings.{reading}
 use Rattle.baseline.proofs.Sums.{four}
 use Rattle.baseline.proofs.readings.slot_sum.Statement.{statement}
 use Rattle.baseline.proofs.readings.slot_sum.Tie as tie
-use Rattle.baseline.proofs.readings.slot_sum.Reads as reads
-use Rattle.baseline.proofs.readings.slot_sum.Lts as lts
-use Rattle.baseline.proofs.readings.reading_of.Reads as reading-of-reads
-use Rattle.baseline.proofs.readings.sum4.Reads as sum4-reads
 
 array-read-reading-of : tie.Need-array-read-reading-of
 array-read-reading-of c = search needs

@@ -1,19 +1,15 @@
 -- `slot_sums` meets its contract. The invariant: the first j places hold their sums. Assumes nothing.
-use mathlib.Core.Path.{_≡_, refl, ap, _∙_}
+use mathlib.Core.Path.{_≡_, refl, _∙_}
 use mathlib.Core.List.{List, map}
-use Prim.Native.Nat.{ℕ, _≤_, _-_, _+_}
-use native.Mathlib.Nat.{add-comm}
+use Prim.Native.Nat.{ℕ, _≤_, _-_}
 use native.Mathlib.Omega.{arith}
 use lib.ListN.{length, replicate, length-set}
 use borrow.Author.Needs.{needs}
 use Rattle.numbers.specs.Lists.{run, sum}
 use Rattle.numbers.proofs.Filling.{front, fill-more, fill-all}
-use Rattle.baseline.specs.Readings.{reading, windowSum, windowSums, slotSums}
+use Rattle.baseline.specs.Readings.{reading, slotSums}
 use Rattle.baseline.proofs.readings.slot_sums.Statement.{statement}
 use Rattle.baseline.proofs.readings.slot_sums.Tie as tie
-use Rattle.baseline.proofs.readings.slot_sums.Reads as reads
-use Rattle.baseline.proofs.readings.slot_sums.Lts as lts
-use Rattle.baseline.proofs.readings.slot_sum.Reads as slot-sum-reads
 
 -- a slot over some days
 abbrev over : List ℕ → List ℕ → ℕ → ℕ

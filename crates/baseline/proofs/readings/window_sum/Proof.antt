@@ -1,15 +1,12 @@
 -- `window_sum` meets its contract. Assumes nothing.
-use mathlib.Core.Path.{_≡_, sym, ap, _∙_}
-use Prim.Native.Nat.{ℕ, _*_}
+use mathlib.Core.Path.{sym, ap, _∙_}
+use Prim.Native.Nat.{_*_}
 use borrow.Author.Needs.{needs}
 use Rattle.numbers.specs.Lists.{sum}
 use Rattle.numbers.specs.Words.{word32}
 use Rattle.baseline.proofs.Sums.{run-shift}
 use Rattle.baseline.proofs.readings.window_sum.Statement.{statement}
 use Rattle.baseline.proofs.readings.window_sum.Tie as tie
-use Rattle.baseline.proofs.readings.window_sum.Reads as reads
-use Rattle.baseline.proofs.readings.window_sum.Lts as lts
-use Rattle.baseline.proofs.readings.six_from.Reads as six-from-reads
 
 mul-six-from : tie.Need-mul-six-from
 mul-six-from c = search needs

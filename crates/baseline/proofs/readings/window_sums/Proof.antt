@@ -1,19 +1,15 @@
 -- `window_sums` meets its contract. The invariant: the first k places hold their sums. Assumes nothing.
 use mathlib.Core.Path.{_≡_, refl, ap, _∙_}
-use mathlib.Core.List.{List, map}
-use Prim.Native.Nat.{ℕ, _≤_, _-_, _+_}
+use Prim.Native.Nat.{_≤_, _-_}
 use native.Mathlib.Nat.{add-comm}
 use native.Mathlib.Omega.{arith}
 use lib.ListN.{length, replicate, length-set}
 use borrow.Author.Needs.{needs}
-use Rattle.numbers.specs.Lists.{run, sum}
+use Rattle.numbers.specs.Lists.{run}
 use Rattle.numbers.proofs.Filling.{front, fill-more, fill-all}
-use Rattle.baseline.specs.Readings.{reading, windowSum, windowSums, slotSums}
+use Rattle.baseline.specs.Readings.{windowSum, windowSums}
 use Rattle.baseline.proofs.readings.window_sums.Statement.{statement}
 use Rattle.baseline.proofs.readings.window_sums.Tie as tie
-use Rattle.baseline.proofs.readings.window_sums.Reads as reads
-use Rattle.baseline.proofs.readings.window_sums.Lts as lts
-use Rattle.baseline.proofs.readings.window_sum.Reads as window-sum-reads
 
 abbrev Inv-loop : tie.InvT-loop
 Inv-loop readings slot sums₀ k₀ sums k =
