@@ -22,8 +22,9 @@ use Rattle.numbers.specs.Integers.{floorDiv}
 abbrev pub back : Width → ℤ → ℤ
 back w z = toZ w (ofZ w z)
 
-pub read : {w : Width} {y z : ℤ} → y ≡ z → SFits w z → back w y ≡ z
-read {w} e f = ap (back w) e ∙ toZ-ofZ f
+-- a call's result, from what the call promises of it: `told w64 (c .call .ok) (c .call .ensures)`
+pub told : (w : Width) {y z : ℤ} → mag y < 2 ^ hbits w → y ≡ z → back w y ≡ z
+told w h e = toZ-ofZ {w = w} (record { sfits = h }) ∙ e
 
 -- a number that is not negative, cast to the same width without a sign
 pub cast-fits : {w : Width} {y : ℤ} {n : ℕ} → y ≡ pos n → n < 2 ^ hbits w → T (nonNeg y) × Fits w (natAbs y)
