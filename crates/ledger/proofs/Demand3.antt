@@ -81,26 +81,11 @@ module _ (h : Head) (marks : List ℕ) where
   watt-is : (v : ℕ) → 3 * (24 * v) ≡ 72 * v
   watt-is v = omega arith
 
-<<<<<<< HEAD
-    accurate : (points : ℕ) (last : List ℕ) (totals : List ℤ) (sum : ℤ) (ps : List Point) → Along h marks points last totals sum ps
-        → Accurate h marks ps (figuresOf (h .contract) totals points) (exactShortfall (accountOf points last sum))
-    unfolding figuresOf noRemainder keepsFractions
-    accurate points last totals sum ps a =
-        let c = compared (partsOfWh h) (partsOfkW h) (partsOfWatt h) (length ps) (h .contract) (wh-pos h (losses-small h marks content))
-        (kW-is (product h)) (watt-is (product h)) (allQuotients h marks ps) (a .kept) (a .sixes) in
-        record {
-          counted = a .count;
-          unrounded = a .kept;
-          equal = rw (a .total, a .exact, wholes) (c .equal);
-          otherwise = rw (a .total, a .exact, wholes) (c .otherwise);
-        }
-=======
   -- a division that is not listed leaves no remainder
   no-loss : (ps : List Point) (figures : Figures) → noLoss h marks ps figures
       ≡ (leZ (pos (h .contract)) (figures .settled) || every whole (allQuotients h marks ps) && divides 3_000 (roundedTotal h marks ps))
   unfolding noRemainder
   no-loss ps figures = ap (λ wholly. leZ (pos (h .contract)) (figures .settled) || wholly && divides 3_000 (roundedTotal h marks ps)) (wholes h marks ps)
->>>>>>> demand3
 
   accurate : (points : ℕ) (last : List ℕ) (totals : List ℤ) (sum : ℤ) (ps : List Point) → Along h marks points last totals sum ps
       → Accurate h marks ps (figuresOf (h .contract) totals points) (exactShortfall (accountOf points last sum))

@@ -1,6 +1,7 @@
 pub mod FigureSteps
 pub mod Ranges
 pub mod SlotResults
+pub mod EarlyRows
 pub mod Examples
 pub mod Lists
 pub mod Sums

@@ -1,3 +1,5 @@
+-- The class or baseline, then the readings.
+use mathlib.Core.Path.{_≡_, sym, _∙_}
 use borrow.Author.Needs.{needs}
 use Rattle.ledger.proofs.adding.value_refusal.Statement.{statement}
 use Rattle.ledger.proofs.adding.value_refusal.Tie as tie
@@ -12,7 +14,7 @@ is-unfit-requires c κs = search needs
 
 -- src/adding.rt:68:9
 returns : tie.Need-returns
-returns c = ?
+returns c = simp (sym (c .before .is-unfit .ensures) ∙ c .if1 .taken)
 
 -- src/adding.rt:70:8
 has-large-requires : tie.Need-has-large-requires
@@ -20,11 +22,11 @@ has-large-requires c κs = search needs
 
 -- src/adding.rt:71:9
 returns-2 : tie.Need-returns-2
-returns-2 c = ?
+returns-2 c = simp (sym (c .before .before .before .is-unfit .ensures) ∙ c .before .before .if1 .left, sym (c .before .has-large .ensures) ∙ c .if2 .taken)
 
 -- src/adding.rt:63:1
 returns-3 : tie.Need-returns-3
-returns-3 c = ?
+returns-3 c = simp (sym (c .before .before .before .is-unfit .ensures) ∙ c .before .before .if1 .left, sym (c .before .has-large .ensures) ∙ c .if2 .left)
 
 pub value-refusal-spec : {M : Type 1} → statement M
 value-refusal-spec =
