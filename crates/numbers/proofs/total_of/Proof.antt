@@ -1,14 +1,15 @@
-use Rattle.numbers.proofs.Machine.{back, told, sum-abs}
-use Rattle.numbers.proofs.Sums.{sumℤ-next, sumℤ-end}
-use mir.Syntax.{w64}
-use mir.Val.{toZ}
-use Prim.Native.Nat.{_≤_, _+_, _-_, _*_}
+-- The invariant: the total so far and the numbers from place i on are the whole sum, and the total is small enough for one more.
 use mathlib.Core.Path.{_≡_, refl, sym, ap, _∙_}
+use Prim.Native.Nat.{_≤_, _+_, _-_, _*_}
 use native.Mathlib.Omega.{arith}
-use borrow.Author.Needs.{needs}
 use lib.IntN.{ℤ, pos, natAbs, _+ℤ_, +ℤ-idl}
 use lib.ListN.{length, getD, drop}
+use mir.Syntax.{w64}
+use mir.Val.{toZ}
+use borrow.Author.Needs.{needs}
 use Rattle.numbers.specs.Integers.{sumℤ}
+use Rattle.numbers.proofs.Machine.{back, told, sum-abs}
+use Rattle.numbers.proofs.Sums.{sumℤ-next, sumℤ-end}
 use Rattle.numbers.proofs.total_of.Statement.{statement}
 use Rattle.numbers.proofs.total_of.Tie as tie
 
