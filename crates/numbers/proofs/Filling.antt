@@ -8,6 +8,7 @@ use native.Mathlib.Nat.{le-of-suc-le-suc, not-suc-le-zero, zero-add, add-zero, a
 use native.Mathlib.Omega.{arith}
 use lib.ListN.{length, getD, set, take, drop, drop-of-length-le, length-append, length-take, length-drop}
 use lib.Seq.{paste-suc, take-all}
+use Rattle.numbers.proofs.Refusals.{or-none}
 use Rattle.numbers.specs.Lists.{run, sum, filter, any}
 
 -- ---- a list whose first places are stored one after the other
@@ -74,6 +75,13 @@ module _ {ℓ} {A : Type ℓ} (test : A → Bool) where
   unfolding any
   any-append [] ys = refl
   any-append (x ∷ xs) ys = rw (any-append xs ys) (sym (or-assoc (test x) (any test xs) (any test ys)))
+
+  -- where the test holds of none, it holds of none at a place
+  pub any-none : (z : A) → test z ≡ false → (xs : List A) → any test xs ≡ false → (i : ℕ) → test (getD xs i z) ≡ false
+  unfolding any
+  any-none z e [] h i = e
+  any-none z e (x ∷ xs) h zero = or-none (test x) (any test xs) h .0
+  any-none z e (x ∷ xs) h (suc i) = any-none z e xs (or-none (test x) (any test xs) h .1) i
 
   keep : (t : Bool) (x : A) (xs ys : List A) → cond t (x ∷ (xs ++ ys)) (xs ++ ys) ≡ cond t (x ∷ xs) xs ++ ys
   keep true x xs ys = refl

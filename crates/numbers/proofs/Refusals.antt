@@ -1,12 +1,17 @@
 -- Tables of refusals: one that tells 0 has no test that fits, and back. Assumes nothing.
 use mathlib.Core.Path.{_≡_, refl}
-use mathlib.Core.Bool.{Bool, true, false, cond, _&&_}
+use mathlib.Core.Bool.{Bool, true, false, cond, _&&_, _||_, true≢false}
 use mathlib.Core.List.{List, [], _∷_}
 use Prim.Native.Nat.{ℕ, _<_}
 use native.Mathlib.Omega.{arith}
 use lib.Dec.{T, ltb, ltb→lt}
 use mir.Facts.{and-yes}
 use Rattle.numbers.specs.Refusals.{firstOf}
+
+-- neither of two tests fits
+pub or-none : (a b : Bool) → a || b ≡ false → (a ≡ false) × (b ≡ false)
+or-none true b e = absurd (true≢false e)
+or-none false b e = (refl, e)
 
 -- no test of the table fits
 abbrev pub Clear : List (Bool × ℕ) → Type 0
