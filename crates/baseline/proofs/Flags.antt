@@ -1,6 +1,6 @@
 -- The days of flags, one day more. Assumes nothing.
-use mathlib.Core.Path.{_≡_, refl, sym, ap, _∙_}
-use mathlib.Core.Bool.{Bool, true, false, cond}
+use mathlib.Core.Path.{_≡_, refl}
+use mathlib.Core.Bool.{Bool, true, false}
 use mathlib.Core.List.{List, [], _∷_}
 use Prim.Native.Nat.{ℕ, zero, suc, _+_, _<_, _≤_}
 use native.Mathlib.Numerals.{add-one}
@@ -10,7 +10,7 @@ use lib.ListN.{length, getD, drop, drop-of-length-le}
 use lib.Seq.{drop-cons}
 use Rattle.numbers.specs.Lists.{run, filter}
 use Rattle.baseline.specs.Days.{daysFrom, Rising, none, next}
-use Rattle.baseline.proofs.Rising.{rising-nearer}
+use Rattle.baseline.proofs.Rising.{rising-nearer, rising-farther}
 
 -- the days from place k on: at place k stands day k + 1
 abbrev pub further : List Bool → ℕ → List ℕ
@@ -29,11 +29,14 @@ module _ (flags : List Bool) (k : ℕ) where
   unfolding daysFrom
   further-end h = rw (drop-of-length-le flags h)
 
-pub flags-rising : (k : ℕ) (flags : List Bool) → Rising k (k + length flags) (daysFrom (suc k) flags)
+flags-from : (k : ℕ) (flags : List Bool) → Rising k (k + length flags) (daysFrom (suc k) flags)
 unfolding daysFrom
-flags-rising k [] = none (le-add-right k 0)
-flags-rising k (true ∷ flags) = next (lt-suc-self k) (rw (suc-add, ← add-suc) at (flags-rising (suc k) flags))
-flags-rising k (false ∷ flags) = rising-nearer (le-suc k) (rw (suc-add, ← add-suc) at (flags-rising (suc k) flags))
+flags-from k [] = none (le-add-right k 0)
+flags-from k (true ∷ flags) = next (lt-suc-self k) (rw (suc-add, ← add-suc) at (flags-from (suc k) flags))
+flags-from k (false ∷ flags) = rising-nearer (le-suc k) (rw (suc-add, ← add-suc) at (flags-from (suc k) flags))
+
+pub flags-rising : {n : ℕ} (flags : List Bool) → length flags ≤ n → Rising 0 n (daysFrom 1 flags)
+flags-rising flags h = rising-farther (let l : 0 + length flags ≤ _ = omega arith in l) (flags-from 0 flags)
 
 -- the flags of a test tell the days that it holds of
 pub flags-filter : (test : ℕ → Bool) (k n : ℕ) → daysFrom k (run test k n) ≡ filter test (run (λ d. d) k n)

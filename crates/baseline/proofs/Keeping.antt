@@ -1,14 +1,13 @@
 -- Days that a loop keeps one after the other. Assumes nothing.
-use mathlib.Core.Path.{_≡_, refl, sym, ap, _∙_}
+use mathlib.Core.Path.{_≡_, sym, ap, _∙_}
 use mathlib.Core.Bool.{Bool, true, false}
-use mathlib.Core.List.{List, [], _∷_, _++_, map, append-nil}
+use mathlib.Core.List.{List, [], _∷_, _++_, append-nil}
 use Prim.Native.Nat.{ℕ, _+_, _<_, _≤_}
-use native.Mathlib.Nat.{add-zero, zero-add, add-assoc}
 use native.Mathlib.Numerals.{add-one}
 use native.Mathlib.Omega.{arith}
 use lib.ListN.{length, getD, set, take, drop, length-append, take-append-drop}
 use lib.Seq.{take-suc, take-suc-set}
-use Rattle.numbers.specs.Lists.{sum, filter}
+use Rattle.numbers.specs.Lists.{filter}
 use Rattle.numbers.proofs.Filling.{filter-append}
 
 module _ (test : ℕ → Bool) (days : List ℕ) (i : ℕ) where
@@ -20,16 +19,17 @@ module _ (test : ℕ → Bool) (days : List ℕ) (i : ℕ) where
   unfolding filter
   keep-no h e = rw (add-one, take-suc days i 0) (filter-append test (take i days) (getD days i 0 ∷ []) ∙ rw e (append-nil _))
 
-  pub kept-length : length (filter test (take i days)) ≤ length (filter test days)
+  kept-length : length (filter test (take i days)) ≤ length (filter test days)
   kept-length =
       let e = ap (filter test) (sym (take-append-drop i days)) ∙ filter-append test (take i days) (drop i days) in
       omega (arith, simp length-append at (ap length e))
 
+-- there is room for a day that is kept
+pub keep-room : (test : ℕ → Bool) (days : List ℕ) (i : ℕ) → i < length days → test (getD days i 0) ≡ true
+    → length (filter test (take i days)) < length (filter test days)
+keep-room test days i h e =
+    omega (arith, kept-length test days (i + 1), simp length-append at (ap length (keep-yes test days i h e)))
+
 -- one day more in the first places of an array
 pub put-day : (places held : List ℕ) (n d : ℕ) → n < length places → take n places ≡ held → take (n + 1) (set places n d) ≡ held ++ d ∷ []
 put-day places held n d h e = rw (add-one, ← e) (take-suc-set places n d h)
-
-pub sum-days : (w : ℕ → ℕ) (xs : List ℕ) (d : ℕ) → sum (map w (xs ++ d ∷ [])) ≡ sum (map w xs) + w d
-unfolding sum
-sum-days w [] d = rw (add-zero, zero-add)
-sum-days w (x ∷ xs) d = rw (sum-days w xs d, add-assoc)

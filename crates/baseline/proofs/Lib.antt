@@ -1,5 +1,10 @@
+pub mod Sums
+pub mod Large
 pub mod Rising
 pub mod Flags
 pub mod Keeping
 pub mod Rounds
+pub mod Walking
 pub mod Lowest
+pub mod Choices
+pub mod Bounds

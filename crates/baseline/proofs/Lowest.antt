@@ -1,24 +1,37 @@
 -- The lowest of five days goes. Assumes nothing.
-use mathlib.Core.Path.{_≡_, refl, sym, ap, _∙_}
+use mathlib.Core.Path.{_≡_, refl, ap}
 use mathlib.Core.Bool.{Bool, true, false, cond}
-use mathlib.Core.List.{List, [], _∷_, _++_}
-use Prim.Native.Nat.{ℕ, zero, suc, _+_, _<_, _≤_}
+use mathlib.Core.List.{List, [], _∷_}
+use Prim.Native.Nat.{ℕ, suc, _+_, _<_, _≤_}
+use native.Mathlib.Numerals.{add-one}
 use native.Mathlib.Omega.{arith}
-use lib.Dec.{leb}
-use lib.ListN.{length}
-use borrow.Author.Tests.{eq-eqb, ne-eqb}
-use Rattle.numbers.specs.Lists.{filter}
-use Rattle.baseline.specs.Choosing.{lowest, used}
-use Rattle.baseline.specs.Days.{Rising}
-use Rattle.baseline.proofs.Rising.{In, here, there, without, without-length}
+use lib.Dec.{leb, eqb}
+use lib.ListN.{length, getD, drop, drop-of-length-le}
+use lib.Seq.{drop-cons}
+use borrow.Author.Tests.{le-leb, lt-leb, eq-eqb, ne-eqb, eqb-true, eqb-false}
+use Rattle.baseline.specs.Choosing.{lowest, used, chosen}
+use Rattle.baseline.specs.Days.{Rising, none, next}
+use Rattle.baseline.proofs.Rising.{In, here, there, without, without-length, rising-filter}
+use Rattle.baseline.proofs.Rounds.{standing-length, standing-rising}
 
 module _ (w : ℕ → ℕ) where
-  pub lowest-append : (low : ℕ) (xs ys : List ℕ) → lowest w low (xs ++ ys) ≡ lowest w (lowest w low xs) ys
+  lowest-next : (low k : ℕ) (days : List ℕ) (t : Bool) → leb (w k) (w low) ≡ t → lowest w low (k ∷ days) ≡ lowest w (cond t k low) days
   unfolding lowest
-  lowest-append low [] ys = refl
-  lowest-append low (x ∷ xs) ys = lowest-append (cond (leb (w x) (w low)) x low) xs ys
+  lowest-next low k days t e = ap (λ b. lowest w (cond b k low) days) e
 
-  pub lowest-in : (low : ℕ) (days : List ℕ) → In (lowest w low days) (low ∷ days)
+  -- one day more
+  module _ (low : ℕ) (days : List ℕ) (i : ℕ) where
+    pub lower : i < length days → w (getD days i 0) ≤ w low → lowest w low (drop i days) ≡ lowest w (getD days i 0) (drop (i + 1) days)
+    lower h l = rw (add-one, drop-cons days i 0) (lowest-next low (getD days i 0) (drop (suc i) days) true (le-leb _ _ l))
+
+    pub not-lower : i < length days → w low < w (getD days i 0) → lowest w low (drop i days) ≡ lowest w low (drop (i + 1) days)
+    not-lower h l = rw (add-one, drop-cons days i 0) (lowest-next low (getD days i 0) (drop (suc i) days) false (lt-leb _ _ l))
+
+    pub lowest-end : length days ≤ i → lowest w low (drop i days) ≡ low
+    unfolding lowest
+    lowest-end h = rw (drop-of-length-le days h)
+
+  lowest-in : (low : ℕ) (days : List ℕ) → In (lowest w low days) (low ∷ days)
   unfolding lowest
   lowest-in low [] = here
   lowest-in low (k ∷ days) = go (leb (w k) (w low)) (lowest-in k days) (lowest-in low days)
@@ -32,14 +45,46 @@ module _ (w : ℕ → ℕ) where
       go false p q = skip q
 
   -- 'Five standing: the lowest window sum goes.'
-  pub used-five : (k : ℕ) (days : List ℕ) → length days ≡ 4 → used w (k ∷ days) ≡ without (lowest w k days) (k ∷ days)
+  pub used-five : (days : List ℕ) → length days ≡ 5 → used w days ≡ without (lowest w (getD days 0 0) (drop 1 days)) days
   unfolding used
-  used-five k days h = simp (eq-eqb (suc (length days)) 5 (omega arith))
-
-  pub used-five-length : {near far : ℕ} (k : ℕ) (days : List ℕ) → length days ≡ 4 → Rising near far (k ∷ days) → length (used w (k ∷ days)) ≡ 4
-  used-five-length k days h r = rw (used-five k days h) (omega (arith, without-length r (lowest-in k days)))
+  used-five [] h = absurd (omega arith)
+  used-five (k ∷ days) h = simp (eq-eqb (suc (length days)) 5 h)
 
   pub used-fewer : (days : List ℕ) → (length days ≡ 5 → ⊥) → used w days ≡ days
   unfolding used
   used-fewer [] n = refl
   used-fewer (k ∷ days) n = simp (ne-eqb (suc (length days)) 5 n)
+
+  -- four are left of five
+  pub four-left : {near far : ℕ} (days : List ℕ) → length days ≡ 5 → Rising near far days
+      → length (without (lowest w (getD days 0 0) (drop 1 days)) days) ≡ 4
+  four-left [] h r = absurd (omega arith)
+  four-left (k ∷ days) h r = omega (arith, without-length r (lowest-in k days))
+
+  used-rising : {near far : ℕ} {days : List ℕ} → Rising near far days → Rising near far (used w days)
+  unfolding used
+  used-rising (none l) = none l
+  used-rising {near} {far} (next {k = k} {days = days} l r) = go (eqb (length (k ∷ days)) 5) (next l r) (rising-filter _ (next l r))
+    where
+      go : (t : Bool) {all left : List ℕ} → Rising near far all → Rising near far left → Rising near far (cond t left all)
+      go true p q = q
+      go false p q = p
+
+  used-length : {near far : ℕ} {days : List ℕ} → length days ≤ 5 → Rising near far days → length (used w days) ≤ 4
+  unfolding used
+  used-length h (none l) = omega arith
+  used-length {near} {far} h (next {k = k} {days = days} l r) = go (eqb (length (k ∷ days)) 5) refl
+    where
+      go : (t : Bool) → eqb (length (k ∷ days)) 5 ≡ t → length (cond t (without (lowest w k days) (k ∷ days)) (k ∷ days)) ≤ 4
+      go true p = omega (arith, four-left (k ∷ days) (eqb-true _ _ p) (next {near = near} {far = far} l r))
+      go false p = let n : length (k ∷ days) ≡ 5 → ⊥ = eqb-false _ _ p in omega arith
+
+  -- at most four days are chosen, nearest first and none twice
+  module _ {near far : ℕ} {days : List ℕ} (r : Rising near far days) where
+    pub chosen-rising : Rising near far (chosen w days)
+    unfolding chosen
+    chosen-rising = used-rising (standing-rising w r)
+
+    pub chosen-length : length (chosen w days) ≤ 4
+    unfolding chosen
+    chosen-length = used-length (standing-length w days) (standing-rising w r)

@@ -1,12 +1,12 @@
 -- Days that rise: some of them rise too, and each is there once. Assumes nothing.
-use mathlib.Core.Path.{_≡_, refl, sym, ap, _∙_}
+use mathlib.Core.Path.{_≡_, refl, ap}
 use mathlib.Core.Bool.{Bool, true, false, cond, not}
-use mathlib.Core.List.{List, [], _∷_, _++_}
-use Prim.Native.Nat.{ℕ, zero, suc, _+_, _<_, _≤_}
-use native.Mathlib.Nat.{le-trans, le-of-lt, lt-of-le-of-lt}
+use mathlib.Core.List.{List, _∷_, _++_}
+use Prim.Native.Nat.{ℕ, zero, suc, _<_, _≤_}
+use native.Mathlib.Nat.{le-refl, le-trans, le-of-lt, lt-of-le-of-lt}
 use native.Mathlib.Omega.{arith}
 use lib.Dec.{eqb}
-use lib.ListN.{length, getD}
+use lib.ListN.{length, getD, take, drop}
 use borrow.Author.Tests.{eq-eqb, ne-eqb}
 use Rattle.numbers.specs.Lists.{filter}
 use Rattle.baseline.specs.Days.{Rising, none, next}
@@ -40,6 +40,15 @@ pub rising-at : {near far : ℕ} {days : List ℕ} (i : ℕ) → i < length days
 rising-at i h (none l) = absurd (omega arith)
 rising-at zero h (next l r) = (l, rising-le r)
 rising-at (suc i) h (next l r) = let q = rising-at i (omega arith) r in (omega arith, q .1)
+
+pub rising-split : {near far : ℕ} {days : List ℕ} (n : ℕ) → Rising near far days
+    → (mid : ℕ) × Rising near mid (take n days) × Rising mid far (drop n days)
+rising-split {near} zero r = (near, none (le-refl near), r)
+rising-split {near} (suc n) (none l) = (near, none (le-refl near), none l)
+rising-split (suc n) (next l r) = let q = rising-split n r in (q .0, next l (q .1), q .2)
+
+pub rising-take : {near far : ℕ} {days : List ℕ} (n : ℕ) → Rising near far days → Rising near far (take n days)
+rising-take n r = let q = rising-split n r in rising-farther (rising-le (q .2)) (q .1)
 
 -- past the last day stands 0
 pub rising-far : {near far : ℕ} {days : List ℕ} (i : ℕ) → Rising near far days → getD days i 0 ≤ far

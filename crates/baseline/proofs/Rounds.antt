@@ -1,17 +1,17 @@
 -- The walk, round by round. Assumes nothing.
-use mathlib.Core.Path.{_≡_, refl, sym, ap, _∙_}
+use mathlib.Core.Path.{_≡_, refl, _∙_}
 use mathlib.Core.Bool.{Bool, true, false, cond}
-use mathlib.Core.List.{List, [], _∷_, _++_, map}
-use Prim.Native.Nat.{ℕ, zero, suc, _+_, _*_, _<_, _≤_}
+use mathlib.Core.List.{List, [], _∷_, _++_}
+use Prim.Native.Nat.{ℕ, zero, suc, _<_, _≤_}
 use native.Mathlib.Omega.{arith}
 use lib.Dec.{ltb, eqb}
-use lib.ListN.{length, take, drop, length-append, length-drop, take-append-drop}
+use lib.ListN.{length, take, drop, length-append, length-take, length-drop}
 use lib.Seq.{take-at, drop-at, length-take-le}
-use borrow.Author.Tests.{eq-eqb, ne-eqb, lt-ltb, le-ltb, ltb-false, eqb-false}
-use Rattle.numbers.specs.Lists.{sum, filter}
+use borrow.Author.Tests.{eq-eqb, ne-eqb, lt-ltb, le-ltb, ltb-true, ltb-false, eqb-false}
+use Rattle.numbers.specs.Lists.{filter}
 use Rattle.baseline.specs.Choosing.{round, walk, standing}
 use Rattle.baseline.specs.Days.{Rising}
-use Rattle.baseline.proofs.Rising.{rising-filter}
+use Rattle.baseline.proofs.Rising.{rising-filter, rising-append, rising-split, rising-take}
 
 filter-length : (test : ℕ → Bool) (days : List ℕ) → length (filter test days) ≤ length days
 unfolding filter
@@ -73,3 +73,37 @@ module _ (w : ℕ → ℕ) where
     some-dropped n =
         once-more (five ++ rest) ∙ simp (le-ltb _ _ long, take-at five rest 5 h, drop-at five rest 5 h, ne-eqb _ _ n)
         (enough (length (five ++ rest)) (length (round w five ++ rest)) (round w five ++ rest) (simp length-append (omega (arith, round-length five))) (omega arith))
+
+  walk-length : (n : ℕ) (days : List ℕ) → length days ≤ n → length (walk w n days) ≤ 5
+  unfolding walk after
+  walk-length zero days h = omega arith
+  walk-length (suc n) days h =
+      go (ltb (length days) 5) (eqb (length (round w (take 5 days))) 5) refl refl (λ l. walk-length n (after days) (omega arith))
+    where
+      go : (a b : Bool) → ltb (length days) 5 ≡ a → eqb (length (round w (take 5 days))) 5 ≡ b
+          → (length (after days) < length days → length (walk w n (after days)) ≤ 5)
+          → length (cond a days (cond b (take 5 days) (walk w n (after days)))) ≤ 5
+      go true b p q r = let h : length days < 5 = ltb-true _ _ p in omega arith
+      go false true p q r = omega (arith, length-take 5 days)
+      go false false p q r = r (after-less days (ltb-false _ _ p) (eqb-false _ _ q))
+
+  -- at most five days stand
+  pub standing-length : (days : List ℕ) → length (standing w days) ≤ 5
+  standing-length days = walk-length (length days) days (omega arith)
+
+  walk-rising : {near far : ℕ} {days : List ℕ} (n : ℕ) → Rising near far days → Rising near far (walk w n days)
+  unfolding walk
+  walk-rising zero r = r
+  walk-rising {near} {far} {days} (suc n) r =
+      let q = rising-split 5 r in
+      go (ltb (length days) 5) (eqb (length (round w (take 5 days))) 5)
+      (rising-take 5 r) (walk-rising n (rising-append (rising-filter _ (q .1)) (q .2)))
+    where
+      go : (a b : Bool) {five rest : List ℕ} → Rising near far five → Rising near far rest → Rising near far (cond a days (cond b five rest))
+      go true b p q = r
+      go false true p q = p
+      go false false p q = q
+
+  -- they are in the order of the days walked over, none twice
+  pub standing-rising : {near far : ℕ} {days : List ℕ} → Rising near far days → Rising near far (standing w days)
+  standing-rising {days = days} r = walk-rising (length days) r

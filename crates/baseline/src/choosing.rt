@@ -48,3 +48,102 @@ fn keep(days: [usize; 5], sums: &[u64], all: u64) -> Round
         all: left,
     }
 }
+
+// Rounds over the thirty days, each with the days that the one before it left, until one drops none or the days run out.
+fn walk(eligible: [bool; 30], sums: &[u64]) -> Round
+    requires { ⌜ (length (now sums) ≡ 30) × ((k : ℕ) → getD (now sums) k 0 ≤ 6000000000) ⌝ }
+    ensures { λ r. ⌜ Holds (ofDay (now (sums .entry))) (standing (ofDay (now (sums .entry))) (daysFrom 1 eligible)) r ⌝ }
+{
+    let mut days = [0usize; 5];
+    let mut count: usize = 0;
+    let mut all: u64 = 0;
+    let mut k: usize = 0;
+    'walk: loop {
+        while count < 5 {
+            if 30 <= k {
+                break 'walk;
+            }
+            if eligible[k] {
+                days[count] = k + 1;
+                count += 1;
+                all += sums[k];
+            }
+            k += 1;
+        }
+        let left = keep(days, sums, all);
+        let stood = left.count;
+        if stood == 5 {
+            break 'walk;
+        }
+        let next = left.days;
+        days = next;
+        count = stood;
+        all = left.all;
+    }
+    Round { days, count, all }
+}
+
+// The day with the lowest window sum; among equals the farthest.
+fn lowest_of(days: [usize; 5], sums: &[u64]) -> usize
+    requires { ⌜ (length (now sums) ≡ 30) × Rising 0 30 days ⌝ }
+    ensures { λ r. ⌜ r ≡ lowest (ofDay (now (sums .entry))) (getD days 0 0) (drop 1 days) ⌝ }
+{
+    let mut low = days[0];
+    let mut i: usize = 1;
+    while i < 5 {
+        let day = days[i];
+        if sums[day - 1] <= sums[low - 1] {
+            low = day;
+        }
+        i += 1;
+    }
+    low
+}
+
+// The four of five days that are not day `low`.
+fn without(days: [usize; 5], low: usize) -> [usize; 4]
+    requires { ⌜ length (filter (λ other. not (eqb other low)) days) ≡ 4 ⌝ }
+    ensures { λ r. ⌜ r ≡ filter (λ other. not (eqb other low)) days ⌝ }
+{
+    let mut four = [0usize; 4];
+    let mut count: usize = 0;
+    let mut i: usize = 0;
+    while i < 5 {
+        let day = days[i];
+        if day != low {
+            four[count] = day;
+            count += 1;
+        }
+        i += 1;
+    }
+    four
+}
+
+// Of the eligible days the four that are used.
+pub fn choose(eligible: [bool; 30], sums: &[u64]) -> Chosen
+    requires { ⌜ (length (now sums) ≡ 30) × ((k : ℕ) → getD (now sums) k 0 ≤ 6000000000) ⌝ }
+    ensures { λ r. ⌜ r ≡ choice (chosen (ofDay (now (sums .entry))) (daysFrom 1 eligible)) ⌝ }
+{
+    let stood = walk(eligible, sums);
+    let count = stood.count;
+    let days = stood.days;
+    if count < 4 {
+        return Chosen {
+            enough: false,
+            days: [0; 4],
+        };
+    }
+    if count == 4 {
+        let all = [days[0], days[1], days[2], days[3]];
+        return Chosen {
+            enough: true,
+            days: all,
+        };
+    }
+    let low = lowest_of(days, sums);
+    let four = without(days, low);
+    Chosen {
+        enough: true,
+        days: four,
+    }
+}

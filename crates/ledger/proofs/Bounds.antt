@@ -1,74 +1,93 @@
--- How large readings, baselines and slot results can be. Assumes nothing.
-use mathlib.Core.Path.{_≡_, refl, sym, _∙_, ap}
-use mathlib.Core.Bool.{Bool, true, false, cond, not, _&&_, true≢false}
-use mathlib.Core.List.{List, [], _∷_, map}
-use Prim.Native.Nat.{ℕ, zero, suc, _+_, _*_, _-_, _<_, _≤_}
-use native.Mathlib.Nat.{le-trans, add-zero, add-suc, suc-add, add-comm, add-assoc, suc-mul}
+-- What an accepted opening and an accepted adding show, and how large the slot results are. Assumes nothing.
+use mathlib.Core.Path.{_≡_, refl}
+use mathlib.Core.Bool.{Bool, false, not, _&&_, true≢false}
+use mathlib.Core.List.{List}
+use Prim.Native.Nat.{ℕ, _+_, _*_, _-_, _<_, _≤_}
+use native.Mathlib.Nat.{le-trans, le-antisymm}
 use native.Mathlib.Omega.{arith}
 use lib.Dec.{T, leb, ltb, eqb}
 use lib.IntN.{ℤ, pos, natAbs, _-ℤ_}
-use lib.ListN.{length, getD, drop, length-map}
-use lib.Seq.{getD-drop}
-use mir.Facts.{and-yes, leb-yes, no-ltb, ltb-no}
-use borrow.Author.Tests.{ltb-false, not-false}
-use Rattle.numbers.specs.Lists.{run, sum, any}
-use Rattle.numbers.specs.Words.{word16, word32}
-use Rattle.numbers.specs.Integers.{floorDiv}
-use Rattle.numbers.proofs.Filling.{run-length, run-from}
-use Rattle.numbers.proofs.Differences.{by⊖, ⊖s}
+use lib.ListN.{length, getD, length-map}
+use mir.Facts.{and-yes, leb-yes, eqb-yes, no-ltb}
+use borrow.Author.Tests.{ltb-false, leb-false, not-false}
+use Rattle.numbers.specs.Lists.{any}
+use Rattle.numbers.specs.PointNumbers.{isNumber, below}
+use Rattle.numbers.proofs.Filling.{run-length, any-none}
+use Rattle.numbers.proofs.Differences.{⊖s}
 use Rattle.numbers.proofs.Floors.{natAbs-floor, slot-bound}
-use Rattle.numbers.proofs.Refusals.{Clear, clear}
-use Rattle.baseline.specs.Readings.{mostReading, firstLarge, reading, windowSum, slotSums, daySums, earlierSlot, earlierUse}
+use Rattle.numbers.proofs.Refusals.{clear}
+use Rattle.baseline.specs.Readings.{mostReading, firstLarge, daySums, earlierUse}
 use Rattle.baseline.specs.Baseline.{chosenDays, baseline}
-use Rattle.baseline.specs.Days.{Rising, none, next}
-use Rattle.baseline.proofs.Rising.{rising-far}
-use Rattle.ledger.specs.Limits.{mostLoss, mostBaseline, mostResult}
+use Rattle.baseline.proofs.Large.{none-large, first-bound}
+use Rattle.baseline.proofs.Bounds.{reading-bound, earlier-use-bound, day-sums-bound, chosen-days-back, chosen-days-four}
+use Rattle.ledger.specs.Limits.{mostLoss, mostPoints, mostBaseline, mostResult}
 use Rattle.ledger.specs.Heads.{contentTests, contentRefusal, testDay}
-use Rattle.ledger.specs.Points.{Kind, consumer, generator, unknown, kindOf, isUnknown, isUnfit, hasLarge, readingsOf, readingCount, lossOf, baselineOf, consumerQuotient, generatorQuotient, quotients, rounded, results}
+use Rattle.ledger.specs.Points.{Kind, consumer, generator, unknown, kindOf, isUnknown, sizeOf, numberOf, isUnfit, hasLarge, lacksDays, readingsOf, readingCount, lossOf, baselineOf, consumerQuotient, generatorQuotient, quotients, rounded, results}
 use Rattle.ledger.specs.Operations.{pointTests, pointRefusal}
 use Rattle.ledger.specs.declared.Head.{Head}
-use Rattle.ledger.proofs.Lists.{none as noneOf, none-cons, none-run, none-at, any-map}
-use Rattle.ledger.proofs.Days.{chosen-rising, chosen-four}
+use Rattle.ledger.proofs.Lists.{no-false, noneOf, none-run, any-map}
 
--- ---- sums of bounded numbers
+-- ---- an accepted opening
 
-pub sum-run : (f : ℕ → ℕ) (most i n : ℕ) → ((j : ℕ) → j < n → f (i + j) ≤ most) → sum (run f i n) ≤ n * most
-unfolding run sum
-sum-run f most i zero p = omega arith
-sum-run f most i (suc n) p =
-    let first : f i ≤ most = rw add-zero at (p 0 (omega arith)) in
-    rw suc-mul (omega (arith, sum-run f most (suc i) n λ j h. rw (suc-add, ← add-suc) (p (suc j) (omega arith))))
+-- a row's test, which tells what is wrong, as a fact
+passed : (test : Bool) → not test ≡ false → T test
+passed test e = rw (not-false test e) tt
 
-sum-days : {near far : ℕ} {days : List ℕ} (f : ℕ → ℕ) (most : ℕ) → ((k : ℕ) → k ≤ far → f k ≤ most) → Rising near far days
-    → sum (map f days) ≤ length days * most
-unfolding sum
-sum-days f most p (none l) = omega arith
-sum-days f most p (next {k = k} l r) = rw suc-mul (omega (arith, p k (rising-far 0 (next l r)), sum-days f most p r))
+pub both : (a b : Bool) → not (a && b) ≡ false → T a × T b
+both a b e = and-yes a b (passed (a && b) e)
 
--- ---- readings that were tested
+pub record Opens (h : Head) : Type 0 where
+  pub first-slot : 18 ≤ h .slot
+  pub last-slot : h .slot ≤ 34
+  pub losses : (i : ℕ) → getD (h .losses) i 0 ≤ mostLoss
+  pub some-points : 1 ≤ h .count
+  pub most-points : h .count ≤ mostPoints
 
-word32-drop : (bytes : List ℕ) (k at : ℕ) → word32 (drop k bytes) at ≡ word32 bytes (k + at)
-word32-drop bytes k at = simp (getD-drop, add-assoc)
+pub opens : (h : Head) (marks : List ℕ) → contentRefusal h marks ≡ 0 → Opens h
+unfolding contentRefusal
+opens h marks e =
+    let c = clear (contentTests h marks) tt e in
+    let slots = both (leb 18 (h .slot)) (leb (h .slot) 34) (c .1 .1 .0) in
+    let points = both (leb 1 (h .count)) (leb (h .count) mostPoints) (c .1 .1 .1 .1 .1 .0) in
+    record {
+      first-slot = leb-yes (slots .0);
+      last-slot = leb-yes (slots .1);
+      losses = λ i. ltb-false _ _ (any-none (λ loss. ltb mostLoss loss) 0 refl (h .losses) (c .1 .1 .1 .0) i);
+      some-points = leb-yes (points .0);
+      most-points = leb-yes (points .1);
+    }
 
-pub first-large : (readings : List ℕ) (n : ℕ) → n ≤ firstLarge readings n → (i : ℕ) → i < n → word32 readings (i * 4) ≤ mostReading
-unfolding firstLarge
-first-large readings zero p i h = absurd (omega arith)
-first-large readings (suc n) p i h = go (ltb mostReading (word32 readings 0)) refl p (first-large (drop 4 readings) n) i h
-  where
-    go : (t : Bool) → ltb mostReading (word32 readings 0) ≡ t → suc n ≤ cond t 0 (suc (firstLarge (drop 4 readings) n))
-        → (n ≤ firstLarge (drop 4 readings) n → (i : ℕ) → i < n → word32 (drop 4 readings) (i * 4) ≤ mostReading)
-        → (i : ℕ) → i < suc n → word32 readings (i * 4) ≤ mostReading
-    go true e p f i h = absurd (omega arith)
-    go false e p f zero h = ltb-false mostReading (word32 readings 0) e
-    go false e p f (suc i) h = rw (suc-mul, add-comm (i * 4) 4, ← (word32-drop readings 4 (i * 4))) (f (omega arith) i (omega arith))
+-- ---- an accepted adding
 
-module _ (readings : List ℕ) (tested : (i : ℕ) → i < 1488 → word32 readings (i * 4) ≤ mostReading) where
-  pub reading-small : (k i : ℕ) → k ≤ 30 → i < 48 → reading readings k i ≤ mostReading
-  reading-small k i hk hi = tested (48 * k + i) (omega arith)
+pub record Takes (h : Head) (marks : List ℕ) (points : ℕ) (last : List ℕ) (kind : Kind) (value : List ℕ) (places : ℕ) : Type 0 where
+  pub room : points < h .count
+  pub known : isUnknown kind ≡ false
+  pub size : length value ≡ sizeOf kind
+  pub six : places ≡ 6
+  pub number : T (isNumber (numberOf value))
+  pub above : (ltb 0 points && not (below last (numberOf value))) ≡ false
+  pub fit : isUnfit kind value ≡ false
+  pub small : hasLarge kind value ≡ false
+  pub days : lacksDays h marks kind value ≡ false
 
-  pub window-small : (s k : ℕ) → s + 6 ≤ 48 → k ≤ 30 → windowSum readings s k ≤ 6 * mostReading
-  window-small s k hs hk = sum-run (reading readings k) mostReading s 6 λ j h. reading-small k (s + j) hk (omega arith)
+module _ (h : Head) (marks : List ℕ) (points : ℕ) (last : List ℕ) (tag : ℕ) (value : List ℕ) (places : ℕ) where
+  pub takes : pointRefusal h marks points last tag value places ≡ 0 → Takes h marks points last (kindOf tag) value places
+  unfolding pointRefusal
+  takes e =
+      let c = clear (pointTests h marks points last tag value places) tt e in
+      record {
+        room = leb-false (h .count) points (c .0);
+        known = c .1 .0;
+        size = eqb-yes (passed (eqb (length value) (sizeOf (kindOf tag))) (c .1 .1 .0));
+        six = eqb-yes (passed (eqb places 6) (c .1 .1 .1 .0));
+        number = passed (isNumber (numberOf value)) (c .1 .1 .1 .1 .0);
+        above = c .1 .1 .1 .1 .1 .0;
+        fit = c .1 .1 .1 .1 .1 .1 .0;
+        small = c .1 .1 .1 .1 .1 .1 .1 .0;
+        days = c .1 .1 .1 .1 .1 .1 .1 .1 .0;
+      }
 
+<<<<<<< HEAD
   -- the sum of a slot over the chosen days
   pub slot-sum-small : {days : List ℕ} (i : ℕ) → Rising 0 30 days → length days ≤ 4 → i < 48 → sum (map (λ k. reading readings k i) days) ≤ 4 * mostReading
   slot-sum-small i r four hi = omega (arith, sum-days (λ k. reading readings k i) mostReading (λ k h. reading-small k i h hi) r)
@@ -85,17 +104,30 @@ module _ (readings : List ℕ) (tested : (i : ℕ) → i < 1488 → word32 readi
         slot-sum-small (s + j) (chosen-rising test marks readings s) (chosen-four test marks readings s) (omega arith),
         window-small (earlierSlot s) 0 (omega arith) (omega arith),
       )
+=======
+-- 17 was not told
+all-tested : (kind : Kind) (value : List ℕ) → hasLarge kind value ≡ false → firstLarge (readingsOf kind value) (readingCount kind) ≡ readingCount kind
+all-tested kind value e =
+    let readings = readingsOf kind value in
+    let n = readingCount kind in
+    le-antisymm (first-bound readings n) (ltb-false (firstLarge readings n) n e)
+>>>>>>> main
 
 -- ---- slot results
 
--- beyond what a slot result can be
+-- beyond a limit on either side of zero
 abbrev pub isBeyond : ℕ → ℤ → Bool
 isBeyond most z = ltb most (natAbs z)
 
-pub loss-small : (losses : List ℕ) (i : ℕ) → T (noneOf (λ loss. ltb mostLoss loss) losses) → getD losses i 0 ≤ mostLoss
-loss-small [] i t = omega arith
-loss-small (loss ∷ losses) zero t = ltb-no (none-cons (λ loss. ltb mostLoss loss) loss losses .0 t .0)
-loss-small (loss ∷ losses) (suc i) t = loss-small losses i (none-cons (λ loss. ltb mostLoss loss) loss losses .0 t .1)
+baseline-small : (readings : List ℕ) → firstLarge readings 1488 ≡ 1488 → (test : ℕ) (marks : List ℕ) (s j : ℕ) → s ≤ 34
+    → baseline (daySums readings (chosenDays test marks readings s) s) (earlierUse readings s) j ≤ 48 * mostReading
+baseline-small readings fits test marks s j h =
+    let days = chosenDays test marks readings s in
+    omega (
+      arith,
+      day-sums-bound readings fits days (chosen-days-four test marks readings s) (chosen-days-back test marks readings s) s (omega arith) 0 j,
+      earlier-use-bound readings fits s (omega arith),
+    )
 
 consumer-small : (loss base used : ℕ) → loss ≤ mostLoss → base ≤ 48 * mostReading → used ≤ mostReading
     → natAbs (rounded (consumerQuotient loss base used)) ≤ mostResult
@@ -107,23 +139,18 @@ generator-small kW metered hk hm = le-trans (natAbs-floor (pos metered -ℤ pos 
     go : (a b : ℕ) → a ≤ 1_000_000_000 → b ≤ 500_000_000 → natAbs (pos a -ℤ pos b) ≤ 4_000_000_000
     go a b ha hb = simp ⊖s (omega arith)
 
--- 17 was not told
-pub tested : (kind : Kind) (value : List ℕ) → hasLarge kind value ≡ false
-    → (i : ℕ) → i < readingCount kind → word32 (readingsOf kind value) (i * 4) ≤ mostReading
-tested kind value e = first-large (readingsOf kind value) (readingCount kind) (ltb-false _ _ e)
-
 -- A line for each kind of point.
-module _ (h : Head) (marks : List ℕ) (slot : h .slot ≤ 34) (losses : T (noneOf (λ loss. ltb mostLoss loss) (h .losses))) where
-  small-by : (kind : Kind) (value : List ℕ) → isUnfit kind value ≡ false → hasLarge kind value ≡ false
-      → T (noneOf (λ q. isBeyond mostResult (rounded q)) (quotients h marks kind value))
-  unfolding quotients any
-  small-by consumer value fit large = none-run (λ q. isBeyond mostResult (rounded q)) _ 0 6 λ j hj.
-      no-ltb (consumer-small (lossOf h value) _ _ (loss-small (h .losses) _ losses)
-      (baseline-small (readingsOf consumer value) (tested consumer value large) (testDay h) marks (h .slot) (0 + j) slot (omega arith))
-      (reading-small (readingsOf consumer value) (tested consumer value large) 0 (h .slot + (0 + j)) (omega arith) (omega arith)))
-  small-by generator value fit large = none-run (λ q. isBeyond mostResult (rounded q)) _ 0 6 λ j hj.
-      no-ltb (generator-small (baselineOf value) _ (ltb-false _ _ fit) (tested generator value large (0 + j) (omega arith)))
-  small-by unknown value fit large = tt
+small-by : (h : Head) (marks : List ℕ) → Opens h → (kind : Kind) (value : List ℕ) → isUnfit kind value ≡ false → hasLarge kind value ≡ false
+    → T (noneOf (λ q. isBeyond mostResult (rounded q)) (quotients h marks kind value))
+unfolding quotients any
+small-by h marks o consumer value fit small = none-run (λ q. isBeyond mostResult (rounded q)) _ 0 6 λ j l.
+    let tested = all-tested consumer value small in
+    no-ltb (consumer-small (lossOf h value) _ _ (o .losses _)
+    (baseline-small (readingsOf consumer value) tested (testDay h) marks (h .slot) (0 + j) (o .last-slot))
+    (reading-bound (readingsOf consumer value) tested 0 (h .slot + (0 + j)) (omega arith) (omega arith)))
+small-by h marks o generator value fit small = none-run (λ q. isBeyond mostResult (rounded q)) _ 0 6 λ j l.
+    no-ltb (generator-small (baselineOf value) _ (ltb-false _ _ fit) (none-large (readingsOf generator value) 6 (0 + j) (all-tested generator value small) (omega arith)))
+small-by h marks o unknown value fit small = tt
 
 six-by : (h : Head) (marks : List ℕ) (kind : Kind) (value : List ℕ) → isUnknown kind ≡ false → length (quotients h marks kind value) ≡ 6
 unfolding quotients
@@ -131,42 +158,18 @@ six-by h marks consumer value e = run-length _ 0 6
 six-by h marks generator value e = run-length _ 0 6
 six-by h marks unknown value e = absurd (true≢false e)
 
--- a row's test as a fact
-pub failed : (test : Bool) → test ≡ false → T (not test)
-failed test e = rw e tt
+module _ {h : Head} {marks : List ℕ} {points : ℕ} {last : List ℕ} {kind : Kind} {value : List ℕ} {places : ℕ}
+    (t : Takes h marks points last kind value places) where
+  pub six-quotients : length (quotients h marks kind value) ≡ 6
+  six-quotients = six-by h marks kind value (t .known)
 
-pub passed : (test : Bool) → not test ≡ false → T test
-passed test e = rw (not-false test e) tt
-
--- ---- an accepted opening, an accepted adding
-
-pub content-clear : (h : Head) (marks : List ℕ) → contentRefusal h marks ≡ 0 → Clear (contentTests h marks)
-unfolding contentRefusal
-content-clear h marks e = clear (contentTests h marks) tt e
-
-module _ (h : Head) (marks : List ℕ) (sound : contentRefusal h marks ≡ 0) where
-  pub slot-range : (18 ≤ h .slot) × (h .slot ≤ 34)
-  slot-range =
-      let t = and-yes (leb 18 (h .slot)) _ (passed (leb 18 (h .slot) && leb (h .slot) 34) (content-clear h marks sound .1 .1 .0)) in
-      (leb-yes (t .0), leb-yes (t .1))
-
-  pub losses-small : T (noneOf (λ loss. ltb mostLoss loss) (h .losses))
-  losses-small = failed _ (content-clear h marks sound .1 .1 .1 .0)
-
-module _ (h : Head) (marks : List ℕ) (points : ℕ) (last : List ℕ) (tag : ℕ) (value : List ℕ) (places : ℕ)
-    (accepted : pointRefusal h marks points last tag value places ≡ 0) where
-  pub point-clear : Clear (pointTests h marks points last tag value places)
-  unfolding pointRefusal
-  point-clear = clear (pointTests h marks points last tag value places) tt accepted
-
-  pub six-quotients : length (quotients h marks (kindOf tag) value) ≡ 6
-  six-quotients = six-by h marks (kindOf tag) value (point-clear .1 .0)
-
-  pub six-results : length (results h marks (kindOf tag) value) ≡ 6
+  pub six-results : length (results h marks kind value) ≡ 6
   six-results = simp length-map six-quotients
 
   -- each slot result is within the limit
-  pub results-small : contentRefusal h marks ≡ 0 → T (noneOf (isBeyond mostResult) (results h marks (kindOf tag) value))
-  results-small e = rw any-map
-      (small-by h marks (slot-range h marks e .1) (losses-small h marks e) (kindOf tag) value
-      (point-clear .1 .1 .1 .1 .1 .1 .0) (point-clear .1 .1 .1 .1 .1 .1 .1 .0))
+  module _ (o : Opens h) where
+    pub results-small : T (noneOf (isBeyond mostResult) (results h marks kind value))
+    results-small = rw any-map (small-by h marks o kind value (t .fit) (t .small))
+
+    pub result-small : (j : ℕ) → natAbs (getD (results h marks kind value) j (pos 0)) ≤ mostResult
+    result-small j = ltb-false _ _ (any-none (isBeyond mostResult) (pos 0) refl (results h marks kind value) (no-false _ results-small) j)

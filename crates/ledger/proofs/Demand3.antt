@@ -2,31 +2,32 @@
 use mathlib.Core.Path.{_≡_, refl, sym, _∙_, ap}
 use mathlib.Core.Bool.{Bool, true, false, cond, not, _&&_, _||_}
 use mathlib.Core.List.{List, [], _∷_, _++_, map, append-nil}
-use mathlib.Core.Option.{Option, none, some}
-use Prim.Native.Nat.{ℕ, zero, suc, _+_, _*_, _<_, _≤_}
+use Prim.Native.Nat.{ℕ, _+_, _*_}
 use native.Mathlib.Decide.{ℕ-discrete}
 use native.Mathlib.Omega.{arith}
-use lib.Dec.{T, ltb, eqb}
+use lib.Dec.{T, ltb}
 use lib.IntN.{ℤ, pos, _+ℤ_}
+use lib.Signed.{leZ}
 use lib.ListN.{length, replicate, length-append}
-use borrow.Author.Tests.{eq-eqb, ne-eqb}
+use borrow.Author.Tests.{ne-eqb}
 use Rattle.numbers.specs.Lists.{any, gather}
-use Rattle.numbers.specs.Integers.{sumℤ}
-use Rattle.ledger.specs.Heads.{headOf, contentRefusal, openingRefusal}
-use Rattle.ledger.specs.Points.{Point, Quotient, kindOf, numberOf, quotients, rounded, results}
-use Rattle.ledger.specs.States.{opened, noState, plus, taken}
+use Rattle.numbers.specs.Integers.{divides, sumℤ}
+use Rattle.ledger.specs.Heads.{headOf, openingRefusal}
+use Rattle.ledger.specs.Points.{Point, kindOf, numberOf, quotients, results}
+use Rattle.ledger.specs.States.{noState, plus, taken}
 use Rattle.ledger.specs.Figures.{figuresOf}
-use Rattle.ledger.specs.Operations.{openOf, pointRefusal, addingRefusal, addOf, closingRefusal, closeOf}
+use Rattle.ledger.specs.Operations.{pointRefusal, addingRefusal, closingRefusal, closeOf}
 use Rattle.ledger.specs.Account.{Call, adding, closing, Account, product, partsOfkW, partsOfWatt, partsOfWh, exactly, exactSum, exactShortfall, opening, Said, said, saysOf, allRefused, account}
-use Rattle.ledger.specs.Demand3.{Reply, refused, accepted, closed, replyOf, replies, program, takenBefore, takenAll, allQuotients, roundedTotal, noRemainder, keepsFractions, Accurate, Agree, both-refuse, both-accept, both-close, AgreeAll, end, next, Demand3}
+use Rattle.ledger.specs.Demand3.{refused, accepted, closed, replyOf, replies, program, takenBefore, takenAll, allQuotients, roundedTotal, noRemainder, noLoss, keepsFractions, Accurate, Agree, both-refuse, both-accept, both-close, AgreeAll, end, next, Demand3}
 use Rattle.ledger.specs.declared.Head.{Head}
 use Rattle.ledger.specs.declared.State.{State}
-use Rattle.ledger.proofs.Lists.{gather-append, none-append}
-use Rattle.ledger.proofs.Sums.{sum-append, sum-plus, length-plus}
-use Rattle.ledger.proofs.Rounding.{Compared, compared, goesInto}
-use Rattle.ledger.proofs.Bounds.{six-quotients, six-results, losses-small, point-clear}
+use Rattle.ledger.specs.declared.Figures.{Figures}
+use Rattle.ledger.proofs.Lists.{every, none-append, gather-append}
+use Rattle.ledger.proofs.Sums.{sum-append, taken-total, length-plus}
+use Rattle.ledger.proofs.Rounding.{whole, compared}
+use Rattle.ledger.proofs.Bounds.{opens, takes, six-quotients, six-results}
 use Rattle.ledger.proofs.Divisors.{goes-by, wh-pos, wholes}
-use Rattle.ledger.proofs.Sound.{Sound, open-good, open-bad, opening-content, opened-sound, add-good, add-bad, adding-sound, taken-sound, close-good, close-bad, closing-sound, nothing-taken, nothing-closed}
+use Rattle.ledger.proofs.Sound.{Sound, open-good, open-bad, opened-sound, add-good, add-bad, adding-sound, taken-sound, close-good, close-bad, closing-sound, nothing-taken, nothing-closed}
 
 -- ---- what holds between the state, the account and the points taken, after any calls
 
@@ -59,84 +60,89 @@ module _ (h : Head) (marks : List ℕ) where
   unfolding taken keepsFractions
   along-taken points last totals sum ps tag value places e a =
       let more = one-more ps (record { tag = tag; value = value }) in
-      let results-six = six-results h marks points last tag value places e in
-      let quotients-six = six-quotients h marks points last tag value places e in
-      let c = point-clear h marks points last tag value places e in
+      let t = takes h marks points last tag value places e in
+      let results-six = six-results t in
+      let quotients-six = six-quotients t in
       record {
         sound = taken-sound (stateOf points last totals) (a .sound) tag value places e;
         count = simp length-append (omega arith);
         six = length-plus totals _ (a .six ∙ sym results-six) ∙ a .six;
-        total = sum-plus totals _ (a .six ∙ sym results-six) ∙ rw (a .total, more, sum-append);
+        total = taken-total (stateOf points last totals) _ (numberOf value) (a .six ∙ sym results-six) ∙ rw (a .total, more, sum-append);
         exact = rw (a .exact, more, sum-append);
         sixes = rw more (simp length-append (omega arith));
-        kept = rw more (none-append _ (allQuotients h marks ps) _ .1 (a .kept, goes-by h marks (kindOf tag) value (c .1 .1 .1 .1 .1 .1 .0)));
+        kept = rw more (none-append _ (allQuotients h marks ps) _ .1 (a .kept, goes-by h marks (kindOf tag) value (t .fit)));
       }
 
   -- ---- an accepted closing
 
-  module _ (content : contentRefusal h marks ≡ 0) where
-    kW-is : (v : ℕ) → 3_000 * (24 * v) ≡ 72_000 * v
-    kW-is v = omega arith
+  kW-is : (v : ℕ) → 3_000 * (24 * v) ≡ 72_000 * v
+  kW-is v = omega arith
 
-    watt-is : (v : ℕ) → 3 * (24 * v) ≡ 72 * v
-    watt-is v = omega arith
+  watt-is : (v : ℕ) → 3 * (24 * v) ≡ 72 * v
+  watt-is v = omega arith
 
-    accurate : (points : ℕ) (last : List ℕ) (totals : List ℤ) (sum : ℤ) (ps : List Point) → Along h marks points last totals sum ps
-        → Accurate h marks ps (figuresOf (h .contract) totals points) (exactShortfall (accountOf points last sum))
-    unfolding figuresOf noRemainder keepsFractions
-    accurate points last totals sum ps a =
-        let c = compared (partsOfWh h) (partsOfkW h) (partsOfWatt h) (length ps) (h .contract) (wh-pos h (losses-small h marks content))
-        (kW-is (product h)) (watt-is (product h)) (allQuotients h marks ps) (a .kept) (a .sixes) in
-        record {
-          counted = a .count;
-          unrounded = a .kept;
-          equal = rw (a .total, a .exact, wholes) (c .equal);
-          otherwise = rw (a .total, a .exact, wholes) (c .otherwise);
-        }
+  -- a division that is not listed leaves no remainder
+  no-loss : (ps : List Point) (figures : Figures) → noLoss h marks ps figures
+      ≡ (leZ (pos (h .contract)) (figures .settled) || every whole (allQuotients h marks ps) && divides 3_000 (roundedTotal h marks ps))
+  unfolding noRemainder
+  no-loss ps figures = ap (λ wholly. leZ (pos (h .contract)) (figures .settled) || wholly && divides 3_000 (roundedTotal h marks ps)) (wholes h marks ps)
 
-    close-at : (points : ℕ) (last : List ℕ) (totals : List ℤ) (sum : ℤ) (ps : List Point) → Along h marks points last totals sum ps
-        → let answer = closeOf (stateOf points last totals) in
-        Agree h marks ps (replyOf (answer .refusal) (closed (answer .figures))) (said (accountOf points last sum) closing)
-    close-at points last totals sum ps a = go (ltb points (h .count)) refl
-      where
-        refusal-is : closingRefusal (stateOf points last totals) ≡ cond (ltb points (h .count)) 20 0
-        refusal-is = closing-sound (stateOf points last totals) (a .sound)
+  accurate : (points : ℕ) (last : List ℕ) (totals : List ℤ) (sum : ℤ) (ps : List Point) → Along h marks points last totals sum ps
+      → Accurate h marks ps (figuresOf (h .contract) totals points) (exactShortfall (accountOf points last sum))
+  unfolding figuresOf keepsFractions
+  accurate points last totals sum ps a =
+      let c = compared (partsOfWh h) (partsOfkW h) (partsOfWatt h) (length ps) (h .contract) (wh-pos h (opens h marks (a .sound .content)))
+      (kW-is (product h)) (watt-is (product h)) (allQuotients h marks ps) (a .kept) (a .sixes) in
+      record {
+        counted = a .count;
+        unrounded = a .kept;
+        equal = rw (no-loss, a .total, a .exact) (c .equal);
+        otherwise = rw (no-loss, a .total, a .exact) λ t. let b = c .otherwise t in omega arith;
+      }
 
-        go : (t : Bool) → ltb points (h .count) ≡ t
-            → let answer = closeOf (stateOf points last totals) in
-            Agree h marks ps (replyOf (answer .refusal) (closed (answer .figures))) (cond t Said.refused (Said.closed (exactShortfall (accountOf points last sum))))
-        go true e =
-            let r : closingRefusal (stateOf points last totals) ≡ 20 = refusal-is ∙ rw e in
-            rw (close-bad (stateOf points last totals) (λ z. omega arith), r) both-refuse
-        go false e =
-            let r : closingRefusal (stateOf points last totals) ≡ 0 = refusal-is ∙ rw e in
-            rw (close-good (stateOf points last totals) r) (both-close (accurate points last totals sum ps a))
+  close-at : (points : ℕ) (last : List ℕ) (totals : List ℤ) (sum : ℤ) (ps : List Point) → Along h marks points last totals sum ps
+      → let answer = closeOf (stateOf points last totals) in
+      Agree h marks ps (replyOf (answer .refusal) (closed (answer .figures))) (said (accountOf points last sum) closing)
+  close-at points last totals sum ps a = go (ltb points (h .count)) refl
+    where
+      refusal-is : closingRefusal (stateOf points last totals) ≡ cond (ltb points (h .count)) 20 0
+      refusal-is = closing-sound (stateOf points last totals) (a .sound)
 
-    -- ---- call by call
+      go : (t : Bool) → ltb points (h .count) ≡ t
+          → let answer = closeOf (stateOf points last totals) in
+          Agree h marks ps (replyOf (answer .refusal) (closed (answer .figures))) (cond t Said.refused (Said.closed (exactShortfall (accountOf points last sum))))
+      go true e =
+          let r : closingRefusal (stateOf points last totals) ≡ 20 = refusal-is ∙ rw e in
+          rw (close-bad (stateOf points last totals) (λ z. omega arith), r) both-refuse
+      go false e =
+          let r : closingRefusal (stateOf points last totals) ≡ 0 = refusal-is ∙ rw e in
+          rw (close-good (stateOf points last totals) r) (both-close (accurate points last totals sum ps a))
 
-    abbrev Agrees : List Call → ℕ → List ℕ → List ℤ → ℤ → List Point → Type 0
-    Agrees calls points last totals sum ps =
-        AgreeAll h marks (takenBefore (accountOf points last sum) ps calls) (replies (stateOf points last totals) calls) (saysOf (accountOf points last sum) calls)
+  -- ---- call by call
 
-    agree : (calls : List Call) (points : ℕ) (last : List ℕ) (totals : List ℤ) (sum : ℤ) (ps : List Point)
-        → Along h marks points last totals sum ps → Agrees calls points last totals sum ps
-    unfolding takenBefore replies saysOf taken
-    agree [] points last totals sum ps a = end
-    agree (adding tag value places ∷ calls) points last totals sum ps a =
-        go (ℕ-discrete (pointRefusal h marks points last tag value places) 0) (agree calls)
-      where
-        refusal-is : addingRefusal (stateOf points last totals) tag value places ≡ pointRefusal h marks points last tag value places
-        refusal-is = adding-sound (stateOf points last totals) (a .sound) tag value places
+  abbrev Agrees : List Call → ℕ → List ℕ → List ℤ → ℤ → List Point → Type 0
+  Agrees calls points last totals sum ps =
+      AgreeAll h marks (takenBefore (accountOf points last sum) ps calls) (replies (stateOf points last totals) calls) (saysOf (accountOf points last sum) calls)
 
-        go : Dec (pointRefusal h marks points last tag value places ≡ 0)
-            → ((points : ℕ) (last : List ℕ) (totals : List ℤ) (sum : ℤ) (ps : List Point) → Along h marks points last totals sum ps → Agrees calls points last totals sum ps)
-            → Agrees (adding tag value places ∷ calls) points last totals sum ps
-        go (yes z) rest = rw (add-good (stateOf points last totals) tag value places (refusal-is ∙ z), z)
-            (next both-accept (rest _ _ _ _ _ (along-taken points last totals sum ps tag value places z a)))
-        go (no n) rest = rw (add-bad (stateOf points last totals) tag value places (λ z. n (sym refusal-is ∙ z)), refusal-is, ne-eqb _ 0 n, append-nil ps)
-            (next both-refuse (rest points last totals sum ps a))
-    agree (closing ∷ calls) points last totals sum ps a =
-        rw (append-nil ps) (next (close-at points last totals sum ps a) (agree calls points last totals sum ps a))
+  agree : (calls : List Call) (points : ℕ) (last : List ℕ) (totals : List ℤ) (sum : ℤ) (ps : List Point)
+      → Along h marks points last totals sum ps → Agrees calls points last totals sum ps
+  unfolding takenBefore replies saysOf taken
+  agree [] points last totals sum ps a = end
+  agree (adding tag value places ∷ calls) points last totals sum ps a =
+      go (ℕ-discrete (pointRefusal h marks points last tag value places) 0) (agree calls)
+    where
+      refusal-is : addingRefusal (stateOf points last totals) tag value places ≡ pointRefusal h marks points last tag value places
+      refusal-is = adding-sound (stateOf points last totals) (a .sound) tag value places
+
+      go : Dec (pointRefusal h marks points last tag value places ≡ 0)
+          → ((points : ℕ) (last : List ℕ) (totals : List ℤ) (sum : ℤ) (ps : List Point) → Along h marks points last totals sum ps → Agrees calls points last totals sum ps)
+          → Agrees (adding tag value places ∷ calls) points last totals sum ps
+      go (yes z) rest = rw (add-good (stateOf points last totals) tag value places (refusal-is ∙ z), z)
+          (next both-accept (rest _ _ _ _ _ (along-taken points last totals sum ps tag value places z a)))
+      go (no n) rest = rw (add-bad (stateOf points last totals) tag value places (λ z. n (sym refusal-is ∙ z)), refusal-is, ne-eqb _ 0 n, append-nil ps)
+          (next both-refuse (rest points last totals sum ps a))
+  agree (closing ∷ calls) points last totals sum ps a =
+      rw (append-nil ps) (next (close-at points last totals sum ps a) (agree calls points last totals sum ps a))
 
 -- ---- a refused opening
 
@@ -172,5 +178,5 @@ demand3 head calendar calls = go (ℕ-discrete (openingRefusal head calendar) 0)
     go : Dec (openingRefusal head calendar ≡ 0)
         → AgreeAll (headOf head) calendar (takenAll (opening head calendar) calls) (program head calendar calls) (account head calendar calls)
     go (yes e) = rw (open-good head calendar e, e)
-        (next both-accept (agree (headOf head) calendar (opening-content head calendar e) calls 0 (replicate 22 48) (replicate 6 (pos 0)) (pos 0) [] (along-opened head calendar e)))
+        (next both-accept (agree (headOf head) calendar calls 0 (replicate 22 48) (replicate 6 (pos 0)) (pos 0) [] (along-opened head calendar e)))
     go (no n) = rw (open-bad head calendar n, ne-eqb _ 0 n) (next both-refuse (shut (headOf head) calendar calls))

@@ -1,27 +1,26 @@
 -- The divisors of a point's quotients: they go into the parts of a Wh, and only those of a consumer can leave a remainder. Assumes nothing.
-use mathlib.Core.Path.{_≡_, refl, sym, _∙_, ap}
-use mathlib.Core.Bool.{Bool, true, false, not, _&&_, _||_}
-use mathlib.Core.List.{List, [], _∷_, _++_}
-use Prim.Native.Nat.{ℕ, zero, suc, _+_, _*_, _-_, _%_, _<_, _≤_}
+use mathlib.Core.Path.{_≡_, refl, sym, ap}
+use mathlib.Core.Bool.{false, not}
+use mathlib.Core.List.{List, [], _∷_}
+use Prim.Native.Nat.{ℕ, zero, suc, _+_, _*_, _-_, _<_, _≤_}
 use native.Mathlib.Nat.{mul-mod-right, mul-pos}
 use native.Mathlib.Omega.{arith}
-use lib.Dec.{T, leb, ltb}
+use lib.Dec.{T, leb}
 use lib.IntN.{pos, _-ℤ_}
 use lib.ListN.{getD}
-use mir.Facts.{and-yes, leb-yes, yes-eqb, T-not-not}
+use mir.Facts.{leb-yes}
 use Rattle.numbers.specs.Lists.{any, gather}
 use Rattle.numbers.specs.Words.{word32}
 use Rattle.numbers.specs.Integers.{divides}
 use Rattle.numbers.proofs.Filling.{any-append}
 use Rattle.numbers.proofs.Floors.{divides-one}
-use Rattle.ledger.specs.Limits.{mostLoss}
-use Rattle.ledger.specs.Points.{Point, Kind, consumer, generator, unknown, Quotient, kindOf, classOf, isUnfit, baselineOf, readingsOf, generatorQuotient, quotients}
-use Rattle.ledger.specs.Account.{product, partsOfWh}
+use Rattle.ledger.specs.Points.{Point, Kind, consumer, generator, unknown, kindOf, classOf, isUnfit, baselineOf, readingsOf, generatorQuotient, quotients}
+use Rattle.ledger.specs.Account.{partsOfWh}
 use Rattle.ledger.specs.Demand3.{divisionsBy, divisions, allQuotients}
 use Rattle.ledger.specs.declared.Head.{Head}
-use Rattle.ledger.proofs.Lists.{no-false, none, every, every-run}
+use Rattle.ledger.proofs.Lists.{no-false, every, every-run}
 use Rattle.ledger.proofs.Rounding.{whole, goesInto}
-use Rattle.ledger.proofs.Bounds.{loss-small, passed}
+use Rattle.ledger.proofs.Bounds.{both, Opens}
 
 -- ---- they go into the parts of a Wh
 
@@ -43,7 +42,7 @@ pub goes-by : (h : Head) (marks : List ℕ) (kind : Kind) (value : List ℕ) →
     → T (every (goesInto (partsOfWh h)) (quotients h marks kind value))
 unfolding quotients any
 goes-by h marks consumer value fit =
-    let t = and-yes (leb 1 (classOf value)) _ (passed (leb 1 (classOf value) && leb (classOf value) 3) fit) in
+    let t = both (leb 1 (classOf value)) (leb (classOf value) 3) fit in
     every-run (goesInto (partsOfWh h)) _ 0 6 λ j hj. class-goes h (classOf value) (leb-yes (t .0)) (leb-yes (t .1))
 goes-by h marks generator value fit = every-run (goesInto (partsOfWh h)) _ 0 6 λ j hj. divides-one (pos (partsOfWh h))
 goes-by h marks unknown value fit = tt
@@ -51,8 +50,8 @@ goes-by h marks unknown value fit = tt
 parts-pos : (a b c : ℕ) → 0 < a → 0 < b → 0 < c → 0 < 24 * (a * b * c)
 parts-pos a b c p q r = omega (arith, mul-pos (mul-pos p q) r)
 
-pub wh-pos : (h : Head) → T (none (λ loss. ltb mostLoss loss) (h .losses)) → 0 < partsOfWh h
-wh-pos h t = parts-pos _ _ _ (omega (arith, loss-small (h .losses) 0 t)) (omega (arith, loss-small (h .losses) 1 t)) (omega (arith, loss-small (h .losses) 2 t))
+pub wh-pos : (h : Head) → Opens h → 0 < partsOfWh h
+wh-pos h o = parts-pos _ _ _ (omega (arith, o .losses 0)) (omega (arith, o .losses 1)) (omega (arith, o .losses 2))
 
 -- ---- a division that is not listed leaves no remainder
 
@@ -67,11 +66,11 @@ unlisted h marks consumer value = refl
 unlisted h marks generator value = sym (no-false _ (every-run whole _ 0 6 λ j hj. generator-whole (baselineOf value) (word32 (readingsOf generator value) ((0 + j) * 4))))
 unlisted h marks unknown value = refl
 
-bads : (h : Head) (marks : List ℕ) (points : List Point)
+unlisted-all : (h : Head) (marks : List ℕ) (points : List Point)
     → any (λ q. not (whole q)) (divisions h marks points) ≡ any (λ q. not (whole q)) (allQuotients h marks points)
 unfolding gather
-bads h marks [] = refl
-bads h marks (p ∷ points) = simp any-append (rw (unlisted h marks (kindOf (p .tag)) (p .value), bads h marks points))
+unlisted-all h marks [] = refl
+unlisted-all h marks (p ∷ points) = simp any-append (rw (unlisted h marks (kindOf (p .tag)) (p .value), unlisted-all h marks points))
 
 pub wholes : (h : Head) (marks : List ℕ) (points : List Point) → every whole (divisions h marks points) ≡ every whole (allQuotients h marks points)
-wholes h marks points = ap not (bads h marks points)
+wholes h marks points = ap not (unlisted-all h marks points)

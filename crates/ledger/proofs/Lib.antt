@@ -1,12 +1,14 @@
 pub mod FigureSteps
 pub mod Ranges
 pub mod SlotResults
+pub mod EarlyRows
 pub mod Examples
 pub mod Lists
 pub mod Sums
 pub mod Rounding
-pub mod Days
 pub mod Bounds
 pub mod Divisors
 pub mod Sound
 pub mod Demand3
+pub mod Totals
+pub mod Sequence

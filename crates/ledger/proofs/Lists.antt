@@ -5,9 +5,7 @@ use mathlib.Core.Bool.{Bool, true, false, not, _||_}
 use mathlib.Core.List.{List, [], _∷_, _++_, map, append-assoc}
 use Prim.Native.Nat.{ℕ, zero, suc, _+_, _<_}
 use native.Mathlib.Nat.{add-zero, add-suc, suc-add, zero-lt-suc, suc-le-suc-iff}
-use native.Mathlib.Omega.{arith}
 use lib.Dec.{T}
-use lib.ListN.{length, getD}
 use Rattle.numbers.specs.Lists.{run, any, gather}
 use Rattle.numbers.proofs.Filling.{any-append}
 
@@ -25,27 +23,22 @@ no-false false t = refl
 
 -- ---- no element passes
 
-abbrev pub none {ℓ} : {A : Type ℓ} → (A → Bool) → List A → Bool
-none test xs = not (any test xs)
+abbrev pub noneOf {ℓ} : {A : Type ℓ} → (A → Bool) → List A → Bool
+noneOf test xs = not (any test xs)
 
 module _ {A : Type 0} (test : A → Bool) where
-  pub none-cons : (x : A) (xs : List A) → T (none test (x ∷ xs)) ↔ (T (not (test x)) × T (none test xs))
+  pub none-cons : (x : A) (xs : List A) → T (noneOf test (x ∷ xs)) ↔ (T (not (test x)) × T (noneOf test xs))
   unfolding any
   none-cons x xs = neither (test x) (any test xs)
 
-  pub none-append : (xs ys : List A) → T (none test (xs ++ ys)) ↔ (T (none test xs) × T (none test ys))
+  pub none-append : (xs ys : List A) → T (noneOf test (xs ++ ys)) ↔ (T (noneOf test xs) × T (noneOf test ys))
   none-append xs ys = rw any-append (neither (any test xs) (any test ys))
 
-  pub none-run : (f : ℕ → A) (i n : ℕ) → ((j : ℕ) → j < n → T (not (test (f (i + j))))) → T (none test (run f i n))
+  pub none-run : (f : ℕ → A) (i n : ℕ) → ((j : ℕ) → j < n → T (not (test (f (i + j))))) → T (noneOf test (run f i n))
   unfolding run any
   none-run f i zero p = tt
   none-run f i (suc n) p = none-cons (f i) (run f (suc i) n) .1
       (rw add-zero at (p zero (zero-lt-suc n)), none-run f (suc i) n λ j h. rw (suc-add, ← add-suc) (p (suc j) (suc-le-suc-iff .1 h)))
-
-  pub none-at : (xs : List A) → T (none test xs) → (i : ℕ) (z : A) → i < length xs → T (not (test (getD xs i z)))
-  none-at [] t i z h = absurd (omega arith)
-  none-at (x ∷ xs) t zero z h = none-cons x xs .0 t .0
-  none-at (x ∷ xs) t (suc i) z h = none-at xs (none-cons x xs .0 t .1) i z (suc-le-suc-iff .0 h)
 
 pub any-map : {A B : Type 0} (test : B → Bool) (f : A → B) (xs : List A) → any test (map f xs) ≡ any (λ x. test (f x)) xs
 unfolding any
@@ -55,7 +48,7 @@ any-map test f (x ∷ xs) = rw (any-map test f xs)
 -- ---- every element passes
 
 abbrev pub every {ℓ} : {A : Type ℓ} → (A → Bool) → List A → Bool
-every test = none (λ x. not (test x))
+every test = noneOf (λ x. not (test x))
 
 pub every-cons : {A : Type 0} (test : A → Bool) (x : A) (xs : List A) → T (every test (x ∷ xs)) ↔ (T (test x) × T (every test xs))
 every-cons test x xs =

@@ -1,9 +1,9 @@
 -- Rounded results beside exact ones, for ANY list of quotients whose divisors go into the parts of a Wh: nothing here knows the kinds of
 -- point. Assumes nothing.
-use mathlib.Core.Path.{_≡_, refl, sym, _∙_, ap}
+use mathlib.Core.Path.{_≡_, refl, ap}
 use mathlib.Core.Logic.{_↔_, _⊎_, inl, inr}
 use mathlib.Core.Bool.{Bool, true, false, not, _&&_, _||_}
-use mathlib.Core.List.{List, [], _∷_, _++_, map}
+use mathlib.Core.List.{List, [], _∷_, map}
 use Prim.Native.Nat.{ℕ, zero, suc, _+_, _*_, _-_, _/_, _%_, _<_, _≤_}
 use native.Mathlib.Nat.{div-add-mod, mul-comm, le-trans, le-add-right, mul-pos, mul-le-mul-right, le-mul-of-pos-right}
 use native.Mathlib.Numerals.{one-add}

@@ -1,16 +1,16 @@
 -- Sound states: what opening gives is one, adding keeps it, and 9 never comes along a run of calls. Assumes nothing.
-use mathlib.Core.Path.{_≡_, refl, sym, _∙_, ap}
+use mathlib.Core.Path.{_≡_, refl, sym, _∙_}
 use mathlib.Core.Logic.{_↔_}
 use mathlib.Core.Bool.{Bool, true, false, cond, not, _&&_, _||_, true≢false}
 use mathlib.Core.List.{List, [], _∷_}
-use Prim.Native.Nat.{ℕ, zero, suc, _+_, _*_, _<_, _≤_}
+use Prim.Native.Nat.{ℕ, _+_, _*_, _<_, _≤_}
 use native.Mathlib.Decide.{ℕ-discrete}
 use native.Mathlib.Omega.{arith}
-use lib.Dec.{T, leb, ltb, eqb}
-use lib.IntN.{ℤ, pos, natAbs, _+ℤ_}
+use lib.Dec.{T, ltb, eqb}
+use lib.IntN.{ℤ, _+ℤ_}
 use lib.ListN.{length}
-use mir.Facts.{and-yes, or-no, ltb-no, no-ltb, eqb-yes, no-eqb}
-use borrow.Author.Tests.{eqb-true, eqb-false, eq-eqb, ne-eqb, leb-false, not-false}
+use mir.Facts.{ltb-no, no-ltb, eqb-yes, no-eqb}
+use borrow.Author.Tests.{eqb-true, eq-eqb, ne-eqb, not-false}
 use Rattle.numbers.specs.Lists.{any}
 use Rattle.numbers.specs.Refusals.{firstOf}
 use Rattle.numbers.specs.PointNumbers.{isNumber}
@@ -19,7 +19,7 @@ use Rattle.numbers.proofs.Refusals.{Clear, clear, clear-zero}
 use Rattle.calendar.specs.Dates.{isDate}
 use Rattle.ledger.specs.Limits.{mostResult}
 use Rattle.ledger.specs.Heads.{headOf, contentTests, contentRefusal, openingRefusal}
-use Rattle.ledger.specs.Points.{kindOf, numberOf, results}
+use Rattle.ledger.specs.Points.{numberOf}
 use Rattle.ledger.specs.States.{opened, noState, isUnsound, plus, taken}
 use Rattle.ledger.specs.Figures.{figuresOf, noFigures}
 use Rattle.ledger.specs.Operations.{openOf, pointTests, pointRefusal, addingRefusal, resultsOf, addOf, closingRefusal, closeOf}
@@ -30,8 +30,8 @@ use Rattle.ledger.specs.declared.State.{State}
 use Rattle.ledger.specs.declared.Opened.{Opened}
 use Rattle.ledger.specs.declared.Added.{Added}
 use Rattle.ledger.specs.declared.Closed.{Closed}
-use Rattle.ledger.proofs.Lists.{none, none-cons, no-false}
-use Rattle.ledger.proofs.Bounds.{isBeyond, failed, passed, point-clear, results-small}
+use Rattle.ledger.proofs.Lists.{noneOf, none-cons, no-false}
+use Rattle.ledger.proofs.Bounds.{both, opens, takes, isBeyond, results-small}
 
 -- ---- the answers of the operations, by the refusal
 
@@ -90,7 +90,7 @@ module _ (state : State) where
 pub record Sound (state : State) : Type 0 where
   pub content : contentRefusal (state .head) (state .marks) ≡ 0
   pub room : state .points ≤ state .head .count
-  pub totals : T (none (isBeyond (mostResult * state .points)) (state .totals))
+  pub totals : T (noneOf (isBeyond (mostResult * state .points)) (state .totals))
   pub last : T (not (ltb 0 (state .points) && not (isNumber (state .last))))
 
 no-row : (a b c d : Bool) → (a || b || c || d ≡ false) ↔ ((a ≡ false) × T (not b) × T (not c) × T (not d))
@@ -102,7 +102,7 @@ no-row false false false d = (λ e. (refl, tt, tt, rw e tt), λ t. no-false d (t
 module _ (state : State) where
   rows : (isUnsound state ≡ false) ↔ ((not (eqb (contentRefusal (state .head) (state .marks)) 0) ≡ false)
       × T (not (ltb (state .head .count) (state .points)))
-      × T (none (isBeyond (mostResult * state .points)) (state .totals))
+      × T (noneOf (isBeyond (mostResult * state .points)) (state .totals))
       × T (not (ltb 0 (state .points) && not (isNumber (state .last)))))
   unfolding isUnsound
   rows = no-row (not (eqb (contentRefusal (state .head) (state .marks)) 0)) (ltb (state .head .count) (state .points))
@@ -123,7 +123,7 @@ module _ (head calendar : List ℕ) (accepted : openingRefusal head calendar ≡
 
   pub opening-lengths : (length head ≡ 17) × (length calendar ≡ 30)
   opening-lengths =
-      let t = and-yes (eqb (length head) 17) (eqb (length calendar) 30) (passed (eqb (length head) 17 && eqb (length calendar) 30) (opening-clear .0)) in
+      let t = both (eqb (length head) 17) (eqb (length calendar) 30) (opening-clear .0) in
       (eqb-yes (t .0), eqb-yes (t .1))
 
   pub opening-content : contentRefusal (headOf head) calendar ≡ 0
@@ -134,7 +134,7 @@ module _ (head calendar : List ℕ) (accepted : openingRefusal head calendar ≡
   unfolding any
   opened-sound = record { content = opening-content; room = omega arith; totals = tt; last = tt }
 
-plus-small : (k l : ℕ) (xs ys : List ℤ) → T (none (isBeyond k) xs) → T (none (isBeyond l) ys) → T (none (isBeyond (k + l)) (plus xs ys))
+plus-small : (k l : ℕ) (xs ys : List ℤ) → T (noneOf (isBeyond k) xs) → T (noneOf (isBeyond l) ys) → T (noneOf (isBeyond (k + l)) (plus xs ys))
 unfolding plus any
 plus-small k l [] ys p q = tt
 plus-small k l (x ∷ xs) [] p q = tt
@@ -160,13 +160,13 @@ module _ (state : State) (s : Sound state) (tag : ℕ) (value : List ℕ) (place
   unfolding taken
   taken-sound e =
       let more : mostResult * (state .points + 1) ≡ mostResult * state .points + mostResult = omega arith in
-      let c = point-clear (state .head) (state .marks) (state .points) (state .last) tag value places e in
+      let t = takes (state .head) (state .marks) (state .points) (state .last) tag value places e in
       record {
         content = s .content;
-        room = omega (arith, leb-false (state .head .count) (state .points) (c .0));
+        room = omega arith;
         totals = rw more (plus-small (mostResult * state .points) mostResult (state .totals) (resultsOf state tag value) (s .totals)
-            (results-small (state .head) (state .marks) (state .points) (state .last) tag value places e (s .content)));
-        last = shown (ltb 0 (state .points + 1)) (isNumber (numberOf value)) (passed (isNumber (numberOf value)) (c .1 .1 .1 .1 .0));
+            (results-small t (opens (state .head) (state .marks) (s .content))));
+        last = shown (ltb 0 (state .points + 1)) (isNumber (numberOf value)) (t .number);
       }
 
   -- adding keeps it
@@ -201,12 +201,12 @@ tellsNine (refused refusal) = eqb refusal 9
 tellsNine accepted = false
 tellsNine (closed figures) = false
 
-never-told : (n : ℕ) (table : List (Bool × ℕ)) → 0 < n → T (none (λ row. eqb (row .1) n) table) → T (not (eqb (firstOf table) n))
+never-told : (n : ℕ) (table : List (Bool × ℕ)) → 0 < n → T (noneOf (λ row. eqb (row .1) n) table) → T (not (eqb (firstOf table) n))
 never-told n [] h t = no-eqb (λ (e : 0 ≡ n). omega arith)
 never-told n (row ∷ table) h t = go (row .0) (none-cons (λ row. eqb (row .1) n) row table .0 t) (never-told n table h)
   where
-    go : (b : Bool) → T (not (eqb (row .1) n)) × T (none (λ row. eqb (row .1) n) table)
-        → (T (none (λ row. eqb (row .1) n) table) → T (not (eqb (firstOf table) n))) → T (not (eqb (cond b (row .1) (firstOf table)) n))
+    go : (b : Bool) → T (not (eqb (row .1) n)) × T (noneOf (λ row. eqb (row .1) n) table)
+        → (T (noneOf (λ row. eqb (row .1) n) table) → T (not (eqb (firstOf table) n))) → T (not (eqb (cond b (row .1) (firstOf table)) n))
     go true p f = p .0
     go false p f = f (p .1)
 
@@ -233,7 +233,7 @@ reply-not-nine n reply p q = go (eqb n 0)
     go true = p
     go false = q
 
-replies-not-nine : (calls : List Call) (state : State) → Sound state → T (none tellsNine (replies state calls))
+replies-not-nine : (calls : List Call) (state : State) → Sound state → T (noneOf tellsNine (replies state calls))
 unfolding replies any
 replies-not-nine [] state s = tt
 replies-not-nine (adding tag value places ∷ calls) state s =
@@ -245,7 +245,7 @@ replies-not-nine (closing ∷ calls) state s =
     none-cons tellsNine (replyOf (closeOf state .refusal) reply) (replies state calls) .1
     (reply-not-nine (closeOf state .refusal) reply tt (close-not-nine state s), replies-not-nine calls state s)
 
-pub never-nine : (head calendar : List ℕ) → openingRefusal head calendar ≡ 0 → (calls : List Call) → T (none tellsNine (program head calendar calls))
+pub never-nine : (head calendar : List ℕ) → openingRefusal head calendar ≡ 0 → (calls : List Call) → T (noneOf tellsNine (program head calendar calls))
 unfolding program
 never-nine head calendar e calls = rw (open-good head calendar e)
     (none-cons tellsNine accepted (replies (opened (headOf head) calendar) calls) .1 (tt, replies-not-nine calls _ (opened-sound head calendar e)))

@@ -1,3 +1,6 @@
+ghost use mathlib.Core.Path.{_≡_};
+ghost use Rattle.ledger.specs.Operations.{openOf, closeOf};
+
 pub mod adding;
 pub mod closing;
 pub mod heads;
@@ -61,4 +64,49 @@ pub struct Added {
 pub struct Closed {
     pub refusal: u32,
     pub figures: Figures,
+}
+
+// Opening: the head and the calendar of a test give a state with no points.
+pub fn open(head: &[u8], calendar: &[u8]) -> Opened
+    ensures { λ r. ⌜ r ≡ openOf (now (head .entry)) (now (calendar .entry)) ⌝ }
+{
+    let refusal = heads::opening_refusal(head, calendar);
+    if refusal != refusals::ACCEPTED {
+        let state = states::no_state();
+        return Opened { refusal, state };
+    }
+    let marks = heads::marks_of(calendar);
+    let state = states::opened_state(heads::head_of(head), marks);
+    Opened {
+        refusal: refusals::ACCEPTED,
+        state,
+    }
+}
+
+// Closing: the figures of a state whose count is reached.
+pub fn close(state: State) -> Closed
+    ensures { λ r. ⌜ r ≡ closeOf state ⌝ }
+{
+    if states::is_unsound(state) {
+        let figures = closing::no_figures();
+        return Closed {
+            refusal: refusals::UNSOUND_STATE,
+            figures,
+        };
+    }
+    let head = state.head;
+    let points = state.points;
+    if points < head.count {
+        let figures = closing::no_figures();
+        return Closed {
+            refusal: refusals::COUNT_NOT_REACHED,
+            figures,
+        };
+    }
+    let totals = state.totals;
+    let figures = closing::figures_of(head.contract, totals, points);
+    Closed {
+        refusal: refusals::ACCEPTED,
+        figures,
+    }
 }

@@ -4,7 +4,7 @@ ghost use mathlib.Core.Bool.{true, false, _&&_};
 ghost use Prim.Native.Nat.{ℕ, _<_, _≤_, _-_};
 ghost use lib.Dec.{leb};
 ghost use lib.ListN.{length, getD};
-ghost use Rattle.ledger.specs.Points.{kindOf, isUnknown, sizeOf, numberOf, isUnfit};
+ghost use Rattle.ledger.specs.Points.{kindOf, isUnknown, sizeOf, numberOf, isUnfit, hasLarge};
 
 pub const CONSUMER: u8 = 3;
 
@@ -65,6 +65,18 @@ pub fn is_unfit(tag: u8, value: &[u8]) -> bool
     match tag {
         CONSUMER => !is_class(value[22]),
         GENERATOR => MOST_BASELINE < numbers::word32_at(value, 22),
+        _ => false,
+    }
+}
+
+// A reading above the limit, used or not.
+pub fn has_large(tag: u8, value: &[u8]) -> bool
+    requires { ⌜ length (now value) ≡ sizeOf (kindOf tag) ⌝ }
+    ensures { λ r. ⌜ r ≡ hasLarge (kindOf tag) (now (value .entry)) ⌝ }
+{
+    match tag {
+        CONSUMER => baseline::readings::first_large(&value[23..], 1488) < 1488,
+        GENERATOR => baseline::readings::first_large(&value[26..], 6) < 6,
         _ => false,
     }
 }

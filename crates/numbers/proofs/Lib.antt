@@ -2,6 +2,7 @@ pub mod Differences
 pub mod Filling
 pub mod Floors
 pub mod Machine
+pub mod Parts
 pub mod PointNumbers
 pub mod Refusals
 pub mod Scanning

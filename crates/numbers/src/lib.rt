@@ -1,5 +1,5 @@
 ghost use mathlib.Core.Path.{_≡_};
-ghost use Prim.Native.Nat.{ℕ, _+_, _*_, _/_, _%_, _≤_, _<_};
+ghost use Prim.Native.Nat.{ℕ, _+_, _*_, _/_, _%_, _^_, _≤_, _<_};
 ghost use lib.IntN.{pos, natAbs, _+ℤ_, _-ℤ_};
 ghost use lib.Signed.{mag};
 ghost use lib.ListN.{length, getD};
@@ -37,7 +37,7 @@ pub fn word32_at(bytes: &[u8], at: usize) -> u32
     (word16_at(bytes, at) as u32) * 65536 + (word16_at(bytes, at + 2) as u32)
 }
 
-// z ÷ d, rounded toward minus infinity: the machine's quotient, which is rounded toward zero, less one where a negative z leaves a rest.
+// z ÷ d, rounded toward minus infinity. The machine's quotient is rounded toward zero: one too many where a negative z leaves a rest.
 pub fn floor_div(z: i64, d: u32) -> i64
     requires { ⌜ 0 < d ⌝ }
     ensures { λ r. ⌜ r ≡ floorDiv z d ⌝ }
@@ -51,7 +51,7 @@ pub fn floor_div(z: i64, d: u32) -> i64
     }
 }
 
-// z, or −1 − z where z is negative: what no sign can overflow.
+// z, or −1 − z where z is negative: −z itself may not fit.
 fn magnitude(z: i64) -> u64
     ensures { λ r. ⌜ r ≡ mag z ⌝ }
 {
@@ -76,17 +76,17 @@ pub fn or_zero(z: i64) -> u64
     if z < 0 { 0 } else { magnitude(z) }
 }
 
-// The sum of two numbers that are small enough.
+// The sum of two numbers whose sizes leave room for it.
 pub fn add_bounded(a: i64, b: i64) -> i64
-    requires { ⌜ natAbs a + natAbs b < 9223372036854775808 ⌝ }
+    requires { ⌜ natAbs a + natAbs b < 2 ^ 63 ⌝ }
     ensures { λ r. ⌜ r ≡ a +ℤ b ⌝ }
 {
     a + b
 }
 
-// The difference of two numbers without a sign.
+// a − b, which may be negative.
 pub fn minus(a: u64, b: u64) -> i64
-    requires { ⌜ a + b < 9223372036854775808 ⌝ }
+    requires { ⌜ a + b < 2 ^ 63 ⌝ }
     ensures { λ r. ⌜ r ≡ pos a -ℤ pos b ⌝ }
 {
     (a as i64) - (b as i64)
@@ -94,7 +94,7 @@ pub fn minus(a: u64, b: u64) -> i64
 
 // The six slot totals together.
 pub fn total_of(totals: [i64; 6]) -> i64
-    requires { ⌜ ((i : ℕ) → natAbs (getD totals i (pos 0)) ≤ 1000000000000000) ⌝ }
+    requires { ⌜ ((i : ℕ) → natAbs (getD totals i (pos 0)) ≤ 1_000_000_000_000_000) ⌝ }
     ensures { λ r. ⌜ r ≡ sumℤ totals ⌝ }
 {
     let mut total: i64 = 0;
@@ -106,18 +106,18 @@ pub fn total_of(totals: [i64; 6]) -> i64
     total
 }
 
-// A number as eight bytes hold it.
+// The bits of a number, read without a sign.
 fn twos_complement(z: i64) -> u64
     ensures { λ r. ⌜ r ≡ twosComplement z ⌝ }
 {
     if z < 0 {
-        18446744073709551615 - magnitude(z)
+        18_446_744_073_709_551_615 - magnitude(z)
     } else {
         magnitude(z)
     }
 }
 
-// The byte of a number whose unit is a power of 256.
+// One byte of a number; the unit says which: 1 the lowest, 256 the next.
 fn byte_of(number: u64, unit: u64) -> u8
     requires { ⌜ 0 < unit ⌝ }
     ensures { λ r. ⌜ r ≡ number / unit % 256 ⌝ }
@@ -131,11 +131,11 @@ pub fn word_bytes(z: i64) -> [u8; 8]
 {
     let number = twos_complement(z);
     [
-        byte_of(number, 72057594037927936),
-        byte_of(number, 281474976710656),
-        byte_of(number, 1099511627776),
-        byte_of(number, 4294967296),
-        byte_of(number, 16777216),
+        byte_of(number, 72_057_594_037_927_936),
+        byte_of(number, 281_474_976_710_656),
+        byte_of(number, 1_099_511_627_776),
+        byte_of(number, 4_294_967_296),
+        byte_of(number, 16_777_216),
         byte_of(number, 65536),
         byte_of(number, 256),
         byte_of(number, 1),
@@ -158,7 +158,7 @@ fn is_digits(bytes: &[u8]) -> bool
     while i < bytes.len() {
         let byte = bytes[i];
         match byte {
-            48..=57 => {}
+            b'0'..=b'9' => {}
             _ => return false,
         }
         i += 1;

@@ -3,7 +3,7 @@ use mathlib.Core.Path.{_≡_, refl, sym, ap, _∙_}
 use mathlib.Core.Bool.{Bool, not}
 use mathlib.Core.List.{List, [], _∷_, map}
 use mathlib.Core.Logic.{⊎-elim}
-use Prim.Native.Nat.{ℕ, _≤_, _<_, _-_, _+_, _*_}
+use Prim.Native.Nat.{ℕ, _≤_, _-_, _*_}
 use native.Mathlib.Omega.{arith}
 use lib.Dec.{ltb}
 use lib.ListN.{length, getD, take, length-set, length-append}
@@ -12,13 +12,11 @@ use borrow.Author.Needs.{needs}
 use borrow.Author.Tests.{lt-ltb, le-ltb}
 use Rattle.numbers.specs.Lists.{sum, filter}
 use Rattle.calendar.specs.Eligible.{ofDay}
-use Rattle.baseline.specs.Days.{Rising}
 use Rattle.baseline.proofs.Rising.{rising-at}
-use Rattle.baseline.proofs.Keeping.{keep-yes, keep-no, put-day, sum-days}
+use Rattle.baseline.proofs.Keeping.{keep-yes, keep-no, put-day}
+use Rattle.baseline.proofs.Sums.{sum-days, days-within}
 use Rattle.baseline.proofs.choosing.keep.Statement.{statement}
 use Rattle.baseline.proofs.choosing.keep.Tie as tie
-use Rattle.baseline.proofs.choosing.keep.Reads as reads
-use Rattle.baseline.proofs.choosing.keep.Lts as lts
 
 -- a day that stays
 abbrev stays : List ℕ → ℕ → ℕ → Bool
@@ -31,7 +29,6 @@ Inv-loop sums all days kept₀ count₀ left₀ i₀ kept count left i =
     × (length kept ≡ 5)
     × (count ≡ length (filter (stays sums all) (take i days)))
     × (take count kept ≡ filter (stays sums all) (take i days))
-    × (left ≤ 6000000000 * count)
     × (left ≡ sum (map (ofDay sums) (filter (stays sums all) (take i days))))
 
 abbrev μ-loop : tie.MeasureT-loop
@@ -39,7 +36,7 @@ abbrev μ-loop : tie.MeasureT-loop
 
 loop-holds : tie.Need-loop-holds Inv-loop μ-loop
 unfolding filter sum
-loop-holds c = (search needs, search needs, search needs, refl, refl, search needs, refl)
+loop-holds c = (search needs, search needs, search needs, refl, refl, refl)
 
 mul-day : tie.Need-mul-day Inv-loop μ-loop
 mul-day c = search needs
@@ -71,7 +68,9 @@ add-count c = search needs
 add-left : tie.Need-add-left Inv-loop μ-loop
 add-left c =
     let s = c .before .before .before .before in
-    omega (arith, s .pre .1 (getD (s .args .t1) (c .before .before .before .loop .i) 0 - 1))
+    let l = c .before .before .before .loop in
+    let held = filter (stays (s .args .sums .now) (s .args .all)) (take (l .i) (s .args .t1)) in
+    omega (arith, s .pre .1 (getD (s .args .t1) (l .i) 0 - 1), days-within (ofDay (s .args .sums .now)) 6000000000 held (λ i h. s .pre .1 (getD held i 0 - 1)))
 
 add-i : tie.Need-add-i Inv-loop μ-loop
 add-i c = search needs
@@ -95,12 +94,11 @@ loop-again c =
       ap length (w .1) ∙ length-set (l .kept) _ _ ∙ l .inv .2,
       omega (arith, ap length more, length-append held (d ∷ [])),
       rw (w .1, w .2, more) (put-day (l .kept) held (l .count) d (omega arith) (l .inv .4)),
-      omega (arith, s .pre .1 (d - 1)),
-      w .3 ∙ rw (l .inv .6, more) (sym (sum-days (ofDay sums) held d)),
+      w .3 ∙ rw (l .inv .5, more) (sym (sum-days (ofDay sums) held d)),
     ))
     (λ w.
     let same = keep-no test (s .args .t1) (l .i) (omega arith) (simp (lt-ltb _ _ (w .0 .left))) in
-    (omega arith, omega arith, ap length (w .1) ∙ l .inv .2, rw same (w .2 ∙ l .inv .3), rw (same, w .1, w .2) (l .inv .4), omega arith, rw same (w .3 ∙ l .inv .6)))
+    (omega arith, omega arith, ap length (w .1) ∙ l .inv .2, rw same (w .2 ∙ l .inv .3), rw (same, w .1, w .2) (l .inv .4), rw same (w .3 ∙ l .inv .5)))
     (c .if1 .came)
 
 returns : tie.Need-returns Inv-loop μ-loop
@@ -108,7 +106,7 @@ returns c =
     let l = c .before .loop in
     let s = c .before .before in
     let e = take-all (l .i) (s .args .t1) (omega arith) in
-    record { places = l .inv .2; count = rw e at (l .inv .3); held = rw e at (l .inv .4); all = rw e at (l .inv .6) }
+    record { places = l .inv .2; count = rw e at (l .inv .3); held = rw e at (l .inv .4); all = rw e at (l .inv .5) }
 
 pub keep-spec : {M : Type 1} → statement M
 keep-spec =

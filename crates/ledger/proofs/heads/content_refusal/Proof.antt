@@ -39,9 +39,9 @@ is-weekend-requires c κs = search needs
 returns-2 : tie.Need-returns-2
 unfolding contentRefusal
 returns-2 c = simp (
-      ap not (sym (c .before .before .before .before .is-date .ensures)) ∙ c .before .before .before .if1 .left,
-      ap isWeekend (sym (c .before .before .day-count .ensures .0)) ∙ sym (c .before .is-weekend .ensures) ∙ c .if2 .taken,
-    )
+  ap not (sym (c .before .before .before .before .is-date .ensures)) ∙ c .before .before .before .if1 .left,
+  ap isWeekend (sym (c .before .before .day-count .ensures .0)) ∙ sym (c .before .is-weekend .ensures) ∙ c .if2 .taken,
+)
 
 -- src/heads.rt:104:9
 is-window-slot-requires : tie.Need-is-window-slot-requires
@@ -51,10 +51,10 @@ is-window-slot-requires c κs = search needs
 returns-3 : tie.Need-returns-3
 unfolding contentRefusal
 returns-3 c = simp (
-      ap not (sym (c .before .before .before .before .before .before .is-date .ensures)) ∙ c .before .before .before .before .before .if1 .left,
-      ap isWeekend (sym (c .before .before .before .before .day-count .ensures .0)) ∙ sym (c .before .before .before .is-weekend .ensures) ∙ c .before .before .if2 .left,
-      ap not (sym (c .before .is-window-slot .ensures)) ∙ c .if3 .taken,
-    )
+  ap not (sym (c .before .before .before .before .before .before .is-date .ensures)) ∙ c .before .before .before .before .before .if1 .left,
+  ap isWeekend (sym (c .before .before .before .before .day-count .ensures .0)) ∙ sym (c .before .before .before .is-weekend .ensures) ∙ c .before .before .if2 .left,
+  ap not (sym (c .before .is-window-slot .ensures)) ∙ c .if3 .taken,
+)
 
 -- src/heads.rt:108:8
 has-large-loss-requires : tie.Need-has-large-loss-requires
@@ -64,11 +64,11 @@ has-large-loss-requires c κs = search needs
 returns-4 : tie.Need-returns-4
 unfolding contentRefusal
 returns-4 c = simp (
-      ap not (sym (c .before .before .before .before .before .before .before .before .before .is-date .ensures)) ∙ c .before .before .before .before .before .before .before .before .if1 .left,
-      ap isWeekend (sym (c .before .before .before .before .before .before .before .day-count .ensures .0)) ∙ sym (c .before .before .before .before .before .before .is-weekend .ensures) ∙ c .before .before .before .before .before .if2 .left,
-      ap not (sym (c .before .before .before .before .is-window-slot .ensures)) ∙ c .before .before .before .if3 .left,
-      sym (c .before .has-large-loss .ensures) ∙ c .if4 .taken,
-    )
+  ap not (sym (c .before .before .before .before .before .before .before .before .before .is-date .ensures)) ∙ c .before .before .before .before .before .before .before .before .if1 .left,
+  ap isWeekend (sym (c .before .before .before .before .before .before .before .day-count .ensures .0)) ∙ sym (c .before .before .before .before .before .before .is-weekend .ensures) ∙ c .before .before .before .before .before .if2 .left,
+  ap not (sym (c .before .before .before .before .is-window-slot .ensures)) ∙ c .before .before .before .if3 .left,
+  sym (c .before .has-large-loss .ensures) ∙ c .if4 .taken,
+)
 
 -- src/heads.rt:111:9
 is-contract-requires : tie.Need-is-contract-requires
@@ -78,12 +78,12 @@ is-contract-requires c κs = search needs
 returns-5 : tie.Need-returns-5
 unfolding contentRefusal
 returns-5 c = simp (
-      ap not (sym (c .before .before .before .before .before .before .before .before .before .before .before .is-date .ensures)) ∙ c .before .before .before .before .before .before .before .before .before .before .if1 .left,
-      ap isWeekend (sym (c .before .before .before .before .before .before .before .before .before .day-count .ensures .0)) ∙ sym (c .before .before .before .before .before .before .before .before .is-weekend .ensures) ∙ c .before .before .before .before .before .before .before .if2 .left,
-      ap not (sym (c .before .before .before .before .before .before .is-window-slot .ensures)) ∙ c .before .before .before .before .before .if3 .left,
-      sym (c .before .before .before .has-large-loss .ensures) ∙ c .before .before .if4 .left,
-      ap not (sym (c .before .is-contract .ensures)) ∙ c .if5 .taken,
-    )
+  ap not (sym (c .before .before .before .before .before .before .before .before .before .before .before .is-date .ensures)) ∙ c .before .before .before .before .before .before .before .before .before .before .if1 .left,
+  ap isWeekend (sym (c .before .before .before .before .before .before .before .before .before .day-count .ensures .0)) ∙ sym (c .before .before .before .before .before .before .before .before .is-weekend .ensures) ∙ c .before .before .before .before .before .before .before .if2 .left,
+  ap not (sym (c .before .before .before .before .before .before .is-window-slot .ensures)) ∙ c .before .before .before .before .before .if3 .left,
+  sym (c .before .before .before .has-large-loss .ensures) ∙ c .before .before .if4 .left,
+  ap not (sym (c .before .is-contract .ensures)) ∙ c .if5 .taken,
+)
 
 -- src/heads.rt:114:9
 is-count-requires : tie.Need-is-count-requires
@@ -93,13 +93,13 @@ is-count-requires c κs = search needs
 returns-6 : tie.Need-returns-6
 unfolding contentRefusal
 returns-6 c = simp (
-      ap not (sym (c .before .before .before .before .before .before .before .before .before .before .before .before .before .is-date .ensures)) ∙ c .before .before .before .before .before .before .before .before .before .before .before .before .if1 .left,
-      ap isWeekend (sym (c .before .before .before .before .before .before .before .before .before .before .before .day-count .ensures .0)) ∙ sym (c .before .before .before .before .before .before .before .before .before .before .is-weekend .ensures) ∙ c .before .before .before .before .before .before .before .before .before .if2 .left,
-      ap not (sym (c .before .before .before .before .before .before .before .before .is-window-slot .ensures)) ∙ c .before .before .before .before .before .before .before .if3 .left,
-      sym (c .before .before .before .before .before .has-large-loss .ensures) ∙ c .before .before .before .before .if4 .left,
-      ap not (sym (c .before .before .before .is-contract .ensures)) ∙ c .before .before .if5 .left,
-      ap not (sym (c .before .is-count .ensures)) ∙ c .if6 .taken,
-    )
+  ap not (sym (c .before .before .before .before .before .before .before .before .before .before .before .before .before .is-date .ensures)) ∙ c .before .before .before .before .before .before .before .before .before .before .before .before .if1 .left,
+  ap isWeekend (sym (c .before .before .before .before .before .before .before .before .before .before .before .day-count .ensures .0)) ∙ sym (c .before .before .before .before .before .before .before .before .before .before .is-weekend .ensures) ∙ c .before .before .before .before .before .before .before .before .before .if2 .left,
+  ap not (sym (c .before .before .before .before .before .before .before .before .is-window-slot .ensures)) ∙ c .before .before .before .before .before .before .before .if3 .left,
+  sym (c .before .before .before .before .before .has-large-loss .ensures) ∙ c .before .before .before .before .if4 .left,
+  ap not (sym (c .before .before .before .is-contract .ensures)) ∙ c .before .before .if5 .left,
+  ap not (sym (c .before .is-count .ensures)) ∙ c .if6 .taken,
+)
 
 -- src/heads.rt:117:35
 slice-aggregate-has-unknown-mark : tie.Need-slice-aggregate-has-unknown-mark
@@ -113,27 +113,27 @@ has-unknown-mark-requires c κs = search needs
 returns-7 : tie.Need-returns-7
 unfolding contentRefusal
 returns-7 c = simp (
-      ap not (sym (c .before .before .before .before .before .before .before .before .before .before .before .before .before .before .before .before .is-date .ensures)) ∙ c .before .before .before .before .before .before .before .before .before .before .before .before .before .before .before .if1 .left,
-      ap isWeekend (sym (c .before .before .before .before .before .before .before .before .before .before .before .before .before .before .day-count .ensures .0)) ∙ sym (c .before .before .before .before .before .before .before .before .before .before .before .before .before .is-weekend .ensures) ∙ c .before .before .before .before .before .before .before .before .before .before .before .before .if2 .left,
-      ap not (sym (c .before .before .before .before .before .before .before .before .before .before .before .is-window-slot .ensures)) ∙ c .before .before .before .before .before .before .before .before .before .before .if3 .left,
-      sym (c .before .before .before .before .before .before .before .before .has-large-loss .ensures) ∙ c .before .before .before .before .before .before .before .if4 .left,
-      ap not (sym (c .before .before .before .before .before .before .is-contract .ensures)) ∙ c .before .before .before .before .before .if5 .left,
-      ap not (sym (c .before .before .before .before .is-count .ensures)) ∙ c .before .before .before .if6 .left,
-      sym (c .before .has-unknown-mark .ensures) ∙ c .if7 .taken,
-    )
+  ap not (sym (c .before .before .before .before .before .before .before .before .before .before .before .before .before .before .before .before .is-date .ensures)) ∙ c .before .before .before .before .before .before .before .before .before .before .before .before .before .before .before .if1 .left,
+  ap isWeekend (sym (c .before .before .before .before .before .before .before .before .before .before .before .before .before .before .day-count .ensures .0)) ∙ sym (c .before .before .before .before .before .before .before .before .before .before .before .before .before .is-weekend .ensures) ∙ c .before .before .before .before .before .before .before .before .before .before .before .before .if2 .left,
+  ap not (sym (c .before .before .before .before .before .before .before .before .before .before .before .is-window-slot .ensures)) ∙ c .before .before .before .before .before .before .before .before .before .before .if3 .left,
+  sym (c .before .before .before .before .before .before .before .before .has-large-loss .ensures) ∙ c .before .before .before .before .before .before .before .if4 .left,
+  ap not (sym (c .before .before .before .before .before .before .is-contract .ensures)) ∙ c .before .before .before .before .before .if5 .left,
+  ap not (sym (c .before .before .before .before .is-count .ensures)) ∙ c .before .before .before .if6 .left,
+  sym (c .before .has-unknown-mark .ensures) ∙ c .if7 .taken,
+)
 
 -- src/heads.rt:91:1
 returns-8 : tie.Need-returns-8
 unfolding contentRefusal
 returns-8 c = simp (
-      ap not (sym (c .before .before .before .before .before .before .before .before .before .before .before .before .before .before .before .before .is-date .ensures)) ∙ c .before .before .before .before .before .before .before .before .before .before .before .before .before .before .before .if1 .left,
-      ap isWeekend (sym (c .before .before .before .before .before .before .before .before .before .before .before .before .before .before .day-count .ensures .0)) ∙ sym (c .before .before .before .before .before .before .before .before .before .before .before .before .before .is-weekend .ensures) ∙ c .before .before .before .before .before .before .before .before .before .before .before .before .if2 .left,
-      ap not (sym (c .before .before .before .before .before .before .before .before .before .before .before .is-window-slot .ensures)) ∙ c .before .before .before .before .before .before .before .before .before .before .if3 .left,
-      sym (c .before .before .before .before .before .before .before .before .has-large-loss .ensures) ∙ c .before .before .before .before .before .before .before .if4 .left,
-      ap not (sym (c .before .before .before .before .before .before .is-contract .ensures)) ∙ c .before .before .before .before .before .if5 .left,
-      ap not (sym (c .before .before .before .before .is-count .ensures)) ∙ c .before .before .before .if6 .left,
-      sym (c .before .has-unknown-mark .ensures) ∙ c .if7 .left,
-    )
+  ap not (sym (c .before .before .before .before .before .before .before .before .before .before .before .before .before .before .before .before .is-date .ensures)) ∙ c .before .before .before .before .before .before .before .before .before .before .before .before .before .before .before .if1 .left,
+  ap isWeekend (sym (c .before .before .before .before .before .before .before .before .before .before .before .before .before .before .day-count .ensures .0)) ∙ sym (c .before .before .before .before .before .before .before .before .before .before .before .before .before .is-weekend .ensures) ∙ c .before .before .before .before .before .before .before .before .before .before .before .before .if2 .left,
+  ap not (sym (c .before .before .before .before .before .before .before .before .before .before .before .is-window-slot .ensures)) ∙ c .before .before .before .before .before .before .before .before .before .before .if3 .left,
+  sym (c .before .before .before .before .before .before .before .before .has-large-loss .ensures) ∙ c .before .before .before .before .before .before .before .if4 .left,
+  ap not (sym (c .before .before .before .before .before .before .is-contract .ensures)) ∙ c .before .before .before .before .before .if5 .left,
+  ap not (sym (c .before .before .before .before .is-count .ensures)) ∙ c .before .before .before .if6 .left,
+  sym (c .before .has-unknown-mark .ensures) ∙ c .if7 .left,
+)
 
 pub content-refusal-spec : {M : Type 1} → statement M
 content-refusal-spec =

@@ -36,7 +36,7 @@ content-refusal-requires c κs = search needs
 -- src/heads.rt:124:1
 returns-3 : tie.Need-returns-3
 unfolding openingRefusal contentRefusal
-returns-3 c = 
+returns-3 c =
     simp (eq-eqb _ _ (c .before .before .before .before .if1 .left), eq-eqb _ _ (c .before .before .before .if2 .left))
     (c .content-refusal .ensures ∙ rw (c .before .head-of .ensures, c .before .before .marks-of .ensures))
 

@@ -26,9 +26,9 @@ returns c = simp (ne-eqb _ _ (rw (c .before .content-refusal .ensures) at (c .if
 returns-2 : tie.Need-returns-2
 unfolding isUnsound
 returns-2 c = simp (
-      eq-eqb _ _ (sym (c .before .before .before .content-refusal .ensures) ∙ c .before .before .if1 .left),
-      lt-ltb _ _ (c .if2 .taken),
-    )
+  eq-eqb _ _ (sym (c .before .before .before .content-refusal .ensures) ∙ c .before .before .if1 .left),
+  lt-ltb _ _ (c .if2 .taken),
+)
 
 -- src/states.rt:79:42
 cast-has-beyond : tie.Need-cast-has-beyond
@@ -46,20 +46,20 @@ has-beyond-requires c κs = search needs
 returns-3 : tie.Need-returns-3
 unfolding isUnsound
 returns-3 c = simp (
-      eq-eqb _ _ (sym (c .before .before .before .before .before .before .content-refusal .ensures) ∙ c .before .before .before .before .before .if1 .left),
-      le-ltb _ _ (c .before .before .before .if2 .left),
-      sym (c .before .has-beyond .ensures) ∙ c .if3 .taken,
-    )
+  eq-eqb _ _ (sym (c .before .before .before .before .before .before .content-refusal .ensures) ∙ c .before .before .before .before .before .if1 .left),
+  le-ltb _ _ (c .before .before .before .if2 .left),
+  sym (c .before .has-beyond .ensures) ∙ c .if3 .taken,
+)
 
 -- src/states.rt:83:9
 returns-4 : tie.Need-returns-4
 unfolding isUnsound
 returns-4 c = simp (
-      eq-eqb _ _ (sym (c .before .before .before .before .before .before .before .content-refusal .ensures) ∙ c .before .before .before .before .before .before .if1 .left),
-      le-ltb _ _ (c .before .before .before .before .if2 .left),
-      sym (c .before .before .has-beyond .ensures) ∙ c .before .if3 .left,
-      le-ltb 0 (c .before .before .before .before .before .before .before .before .before .before .args .state .points) (omega arith),
-    )
+  eq-eqb _ _ (sym (c .before .before .before .before .before .before .before .content-refusal .ensures) ∙ c .before .before .before .before .before .before .if1 .left),
+  le-ltb _ _ (c .before .before .before .before .if2 .left),
+  sym (c .before .before .has-beyond .ensures) ∙ c .before .if3 .left,
+  le-ltb 0 (c .before .before .before .before .before .before .before .before .before .before .args .state .points) (omega arith),
+)
 
 -- src/states.rt:86:25
 slice-aggregate-is-number : tie.Need-slice-aggregate-is-number
@@ -73,11 +73,11 @@ is-number-requires c κs = search needs
 returns-5 : tie.Need-returns-5
 unfolding isUnsound
 returns-5 c = simp (
-      eq-eqb _ _ (sym (c .before .before .before .before .before .before .before .before .before .before .content-refusal .ensures) ∙ c .before .before .before .before .before .before .before .before .before .if1 .left),
-      le-ltb _ _ (c .before .before .before .before .before .before .before .if2 .left),
-      sym (c .before .before .before .before .before .has-beyond .ensures) ∙ c .before .before .before .before .if3 .left,
-      lt-ltb 0 (c .before .before .before .before .before .before .before .before .before .before .before .before .before .args .state .points) (omega arith),
-    ) (ap not (c .is-number .ensures))
+  eq-eqb _ _ (sym (c .before .before .before .before .before .before .before .before .before .before .content-refusal .ensures) ∙ c .before .before .before .before .before .before .before .before .before .if1 .left),
+  le-ltb _ _ (c .before .before .before .before .before .before .before .if2 .left),
+  sym (c .before .before .before .before .before .has-beyond .ensures) ∙ c .before .before .before .before .if3 .left,
+  lt-ltb 0 (c .before .before .before .before .before .before .before .before .before .before .before .before .before .args .state .points) (omega arith),
+) (ap not (c .is-number .ensures))
 
 pub is-unsound-spec : {M : Type 1} → statement M
 is-unsound-spec =

@@ -1,0 +1,65 @@
+-- `choose` meets its contract: one law for each answer. Assumes nothing.
+use mathlib.Core.Path.{sym, ap, _∙_}
+use mathlib.Core.Bool.{true}
+use native.Mathlib.Omega.{arith}
+use Rattle.baseline.specs.Days.{daysFrom}
+use Rattle.baseline.proofs.Flags.{flags-rising}
+use Rattle.baseline.proofs.Choices.{none-enough, all-four, five-rising, lowest-goes}
+use borrow.Author.Needs.{needs}
+use Rattle.baseline.proofs.choosing.choose.Statement.{statement}
+use Rattle.baseline.proofs.choosing.choose.Tie as tie
+
+walk-requires : tie.Need-walk-requires
+walk-requires c κs = search needs
+
+returns : tie.Need-returns
+returns c = sym (none-enough (daysFrom 1 (c .before .before .before .before .args .eligible)) (c .before .before .walk .ensures) (omega arith))
+
+array-read-t13 : tie.Need-array-read-t13
+array-read-t13 c = search needs
+
+array-read-t16 : tie.Need-array-read-t16
+array-read-t16 c = search needs
+
+array-read-t19 : tie.Need-array-read-t19
+array-read-t19 c = search needs
+
+array-read-t22 : tie.Need-array-read-t22
+array-read-t22 c = search needs
+
+returns-2 : tie.Need-returns-2
+returns-2 c = sym (all-four (daysFrom 1 (c .before .before .before .before .before .args .eligible)) (c .before .before .before .walk .ensures) (c .if2 .taken))
+
+lowest-of-requires : tie.Need-lowest-of-requires
+lowest-of-requires c κs =
+    let s = c .before .before .before .before .before in
+    let stood = c .before .before .before .walk .ensures in
+    (s .pre .0, five-rising (daysFrom 1 (s .args .eligible)) stood (omega arith) (flags-rising (s .args .eligible) (omega arith)))
+
+without-requires : tie.Need-without-requires
+without-requires c κs =
+    let stood = c .before .before .before .before .walk .ensures in
+    let s = c .before .before .before .before .before .before in
+    lowest-goes (daysFrom 1 (s .args .eligible)) stood (omega arith) _ (c .lowest-of .ensures) (flags-rising {n = 30} (s .args .eligible) (omega arith)) .0
+
+returns-3 : tie.Need-returns-3
+returns-3 c =
+    let stood = c .before .before .before .before .before .walk .ensures in
+    let s = c .before .before .before .before .before .before .before in
+    ap (λ days. record { enough = true; days = days }) (c .without .ensures)
+    ∙ sym (lowest-goes (daysFrom 1 (s .args .eligible)) stood (omega arith) _ (c .before .lowest-of .ensures) (flags-rising {n = 30} (s .args .eligible) (omega arith)) .1)
+
+pub choose-spec : {M : Type 1} → statement M
+choose-spec =
+    tie.close
+    (tie.spec
+    walk-requires
+    returns
+    array-read-t13
+    array-read-t16
+    array-read-t19
+    array-read-t22
+    returns-2
+    lowest-of-requires
+    without-requires
+    returns-3)

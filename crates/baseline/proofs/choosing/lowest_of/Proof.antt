@@ -1,0 +1,94 @@
+-- `lowest_of` meets its contract. The invariant: the lowest of all is the lowest of `low` and of the days from place i on. Assumes nothing.
+use mathlib.Core.Path.{_≡_, refl, sym, _∙_}
+use mathlib.Core.Logic.{⊎-elim}
+use Prim.Native.Nat.{_≤_, _<_, _-_}
+use native.Mathlib.Omega.{arith}
+use lib.ListN.{getD, drop}
+use borrow.Author.Needs.{needs}
+use Rattle.calendar.specs.Eligible.{ofDay}
+use Rattle.baseline.specs.Choosing.{lowest}
+use Rattle.baseline.proofs.Rising.{rising-at}
+use Rattle.baseline.proofs.Lowest.{lower, not-lower, lowest-end}
+use Rattle.baseline.proofs.choosing.lowest_of.Statement.{statement}
+use Rattle.baseline.proofs.choosing.lowest_of.Tie as tie
+
+abbrev Inv-loop : tie.InvT-loop
+Inv-loop sums days low₀ i₀ low i =
+    (i ≤ 5) × (0 < low) × (low ≤ 30) × (lowest (ofDay sums) (getD days 0 0) (drop 1 days) ≡ lowest (ofDay sums) low (drop i days))
+
+abbrev μ-loop : tie.MeasureT-loop
+μ-loop sums days low₀ i₀ low i = 5 - i
+
+array-read-low : tie.Need-array-read-low Inv-loop μ-loop
+array-read-low c = search needs
+
+loop-holds : tie.Need-loop-holds Inv-loop μ-loop
+loop-holds c = let r = rising-at 0 (omega arith) (c .pre .1) in (omega arith, omega arith, omega arith, refl)
+
+mul-day : tie.Need-mul-day Inv-loop μ-loop
+mul-day c = search needs
+
+array-read-day : tie.Need-array-read-day Inv-loop μ-loop
+array-read-day c = search needs
+
+sub-if1 : tie.Need-sub-if1 Inv-loop μ-loop
+sub-if1 c = omega (arith, rising-at (c .before .loop .i) (omega arith) (c .before .before .pre .1))
+
+mul-if1 : tie.Need-mul-if1 Inv-loop μ-loop
+mul-if1 c = omega (arith, rising-at (c .before .loop .i) (omega arith) (c .before .before .pre .1))
+
+shared-slice-read-if1 : tie.Need-shared-slice-read-if1 Inv-loop μ-loop
+shared-slice-read-if1 c = omega (arith, rising-at (c .before .before .loop .i) (omega arith) (c .before .before .before .pre .1))
+
+sub-if1-2 : tie.Need-sub-if1-2 Inv-loop μ-loop
+sub-if1-2 c = search needs
+
+mul-if1-2 : tie.Need-mul-if1-2 Inv-loop μ-loop
+mul-if1-2 c = search needs
+
+shared-slice-read-if1-2 : tie.Need-shared-slice-read-if1-2 Inv-loop μ-loop
+shared-slice-read-if1-2 c = omega arith
+
+add-i : tie.Need-add-i Inv-loop μ-loop
+add-i c = search needs
+
+loop-less : tie.Need-loop-less Inv-loop μ-loop
+loop-less c = search needs
+
+loop-again : tie.Need-loop-again Inv-loop μ-loop
+loop-again c =
+    let s = c .before .before .before .before .before in
+    let l = c .before .before .before .before .loop in
+    let r = rising-at (l .i) (omega arith) (s .pre .1) in
+    let sum = ofDay (s .args .sums .now) in
+    ⊎-elim
+    (λ w. (omega arith, omega arith, omega arith, l .inv .3 ∙ lower sum (l .low) (s .args .t1) (l .i) (omega arith) (w .0 .taken) ∙ rw (w .1)))
+    (λ w. (omega arith, omega arith, omega arith, l .inv .3 ∙ not-lower sum (l .low) (s .args .t1) (l .i) (omega arith) (w .0 .left) ∙ rw (w .1)))
+    (c .if1 .came)
+
+returns : tie.Need-returns Inv-loop μ-loop
+returns c =
+    let s = c .before .before in
+    let l = c .before .loop in
+    sym (l .inv .3 ∙ lowest-end (ofDay (s .args .sums .now)) (l .low) (s .args .t1) (l .i) (omega arith))
+
+pub lowest-of-spec : {M : Type 1} → statement M
+lowest-of-spec =
+    tie.close
+    (tie.spec
+    Inv-loop
+    μ-loop
+    array-read-low
+    loop-holds
+    mul-day
+    array-read-day
+    sub-if1
+    mul-if1
+    shared-slice-read-if1
+    sub-if1-2
+    mul-if1-2
+    shared-slice-read-if1-2
+    add-i
+    loop-less
+    loop-again
+    returns)
