@@ -11,7 +11,7 @@ use Rattle.numbers.proofs.Filling.{run-length}
 use Rattle.calendar.specs.Eligible.{ofDay, isEligible, eligibleDays}
 use Rattle.baseline.specs.Readings.{mostReading, firstLarge, reading, windowSum, windowSums, slotSums, daySums, earlierUse}
 use Rattle.baseline.specs.Choosing.{chosen}
-use Rattle.baseline.specs.Baseline.{chosenDays}
+use Rattle.baseline.specs.Baseline.{chosenDays, baseline}
 use Rattle.baseline.specs.Days.{Rising, Back, choice}
 use Rattle.baseline.specs.declared.choosing.Chosen.{Chosen}
 use Rattle.baseline.proofs.Sums.{run-within, sum-within, days-within}
@@ -53,6 +53,10 @@ module _ (readings : List ℕ) (fits : firstLarge readings 1488 ≡ 1488) where
     day-sums-bound s h zero k = slot-sums-bound s h k
     day-sums-bound s h (suc zero) k = slot-sums-bound (s - 10) (omega arith) k
     day-sums-bound s h (suc (suc i)) k = omega arith
+
+pub baseline-bound : (sums : List (List ℕ)) (earlier j : ℕ) → ((i k : ℕ) → getD (getD sums i []) k 0 ≤ 4_000_000_000) → earlier ≤ 6_000_000_000
+    → baseline sums earlier j ≤ 48_000_000_000
+baseline-bound sums earlier j h l = omega (arith, h 0 j)
 
 -- ---- days
 

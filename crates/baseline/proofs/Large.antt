@@ -90,3 +90,7 @@ first-bound readings (suc n) = go (ltb mostReading (word32 readings 0)) (first-b
     go : (t : Bool) → firstLarge (drop 4 readings) n ≤ n → cond t 0 (suc (firstLarge (drop 4 readings) n)) ≤ suc n
     go true h = omega arith
     go false h = omega arith
+
+-- no reading is found, so that none is too large
+pub none-found : (readings : List ℕ) (n : ℕ) → n ≤ firstLarge readings n → firstLarge readings n ≡ n
+none-found readings n h = omega (arith, first-bound readings n)

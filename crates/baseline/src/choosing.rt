@@ -1,7 +1,6 @@
 // Choosing four days. A day is its number back; the window sum of day k stands at place k - 1 of `sums`.
 ghost use mathlib.Core.Path.{_≡_};
 ghost use mathlib.Core.Bool.{not};
-ghost use mathlib.Core.List.{_∷_, []};
 ghost use Prim.Native.Nat.{ℕ, _≤_, _*_};
 ghost use lib.Dec.{ltb, eqb};
 ghost use lib.ListN.{length, getD, drop};
@@ -23,9 +22,9 @@ struct Round {
     all: u64,
 }
 
-// Of five days, those that a round does not drop; all five tests use the same five sums together.
+// Of five days, those that a round does not drop. All its tests use the same five sums together, `all`.
 fn keep(days: [usize; 5], sums: &[u64], all: u64) -> Round
-    requires { ⌜ (length (now sums) ≡ 30) × ((k : ℕ) → getD (now sums) k 0 ≤ 6000000000) × Rising 0 30 days ⌝ }
+    requires { ⌜ (length (now sums) ≡ 30) × ((k : ℕ) → getD (now sums) k 0 ≤ 6_000_000_000) × Rising 0 30 days ⌝ }
     ensures { λ r. ⌜ Holds (ofDay (now (sums .entry))) (filter (λ k. not (ltb (ofDay (now (sums .entry)) k * 20) all)) days) r ⌝ }
 {
     let mut kept = [0usize; 5];
@@ -49,9 +48,9 @@ fn keep(days: [usize; 5], sums: &[u64], all: u64) -> Round
     }
 }
 
-// Rounds over the thirty days, each with the days that the one before it left, until one drops none or the days run out.
+// Rounds over the thirty days, until one drops no day or the days run out. A round goes on with the days that the one before it left.
 fn walk(eligible: [bool; 30], sums: &[u64]) -> Round
-    requires { ⌜ (length (now sums) ≡ 30) × ((k : ℕ) → getD (now sums) k 0 ≤ 6000000000) ⌝ }
+    requires { ⌜ (length (now sums) ≡ 30) × ((k : ℕ) → getD (now sums) k 0 ≤ 6_000_000_000) ⌝ }
     ensures { λ r. ⌜ Holds (ofDay (now (sums .entry))) (standing (ofDay (now (sums .entry))) (daysFrom 1 eligible)) r ⌝ }
 {
     let mut days = [0usize; 5];
@@ -121,7 +120,7 @@ fn without(days: [usize; 5], low: usize) -> [usize; 4]
 
 // Of the eligible days the four that are used.
 pub fn choose(eligible: [bool; 30], sums: &[u64]) -> Chosen
-    requires { ⌜ (length (now sums) ≡ 30) × ((k : ℕ) → getD (now sums) k 0 ≤ 6000000000) ⌝ }
+    requires { ⌜ (length (now sums) ≡ 30) × ((k : ℕ) → getD (now sums) k 0 ≤ 6_000_000_000) ⌝ }
     ensures { λ r. ⌜ r ≡ choice (chosen (ofDay (now (sums .entry))) (daysFrom 1 eligible)) ⌝ }
 {
     let stood = walk(eligible, sums);

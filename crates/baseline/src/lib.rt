@@ -26,9 +26,10 @@ pub fn chosen_days(test: u32, marks: [u8; 30], readings: &[u8], slot: usize) -> 
     choose(eligible, &sums)
 }
 
+// Six sums together.
 fn sum_of_six(sums: [u64; 6]) -> u64
-    requires { ⌜ ((k : ℕ) → getD sums k 0 ≤ 4000000000) ⌝ }
-    ensures { λ r. ⌜ (r ≡ sum sums) × (r ≤ 24000000000) ⌝ }
+    requires { ⌜ ((k : ℕ) → getD sums k 0 ≤ 4_000_000_000) ⌝ }
+    ensures { λ r. ⌜ (r ≡ sum sums) × (r ≤ 24_000_000_000) ⌝ }
 {
     sums[0] + sums[1] + sums[2] + sums[3] + sums[4] + sums[5]
 }
@@ -36,8 +37,8 @@ fn sum_of_six(sums: [u64; 6]) -> u64
 // The baseline of window slot j in twenty-fourths of a Wh, from the window sums and the earlier sums over the four days and from the
 // test day's earlier use; 0 where that is negative.
 pub fn baseline_of(sums: [[u64; 6]; 2], earlier: u64, j: usize) -> u64
-    requires { ⌜ (j < 6) × ((i k : ℕ) → getD (getD sums i []) k 0 ≤ 4000000000) × (earlier ≤ 6000000000) ⌝ }
-    ensures { λ r. ⌜ (r ≡ baseline sums earlier j) × (r ≤ 48000000000) ⌝ }
+    requires { ⌜ (j < 6) × ((i k : ℕ) → getD (getD sums i []) k 0 ≤ 4_000_000_000) × (earlier ≤ 6_000_000_000) ⌝ }
+    ensures { λ r. ⌜ (r ≡ baseline sums earlier j) × (r ≤ 48_000_000_000) ⌝ }
 {
     let earlier_sums = sums[1];
     let less = sum_of_six(earlier_sums);

@@ -1,9 +1,9 @@
 // A consumer's readings, of four bytes each: the test day's 48, then those of days 1 to 30 back.
 ghost use mathlib.Core.Path.{_≡_};
 ghost use mathlib.Core.List.{map};
-ghost use Prim.Native.Nat.{ℕ, _<_, _≤_, _+_, _-_, _*_};
+ghost use Prim.Native.Nat.{_<_, _≤_, _+_, _-_, _*_};
 ghost use lib.Dec.{eqb};
-ghost use lib.ListN.{length, getD, drop};
+ghost use lib.ListN.{length, drop};
 ghost use Rattle.numbers.specs.Lists.{run, sum};
 ghost use Rattle.numbers.specs.Words.{word32};
 ghost use Rattle.baseline.specs.Readings.{firstLarge, reading, windowSum, windowSums, slotSums, daySums, earlierUse};
@@ -11,7 +11,7 @@ ghost use Rattle.baseline.specs.Days.{Back};
 use numbers::word32_at;
 
 // Wh
-const MOST_READING: u32 = 1000000000;
+const MOST_READING: u32 = 1_000_000_000;
 
 // Whether none of the four readings from reading i on is too large. One `if` each: a comparison and a jump.
 fn four_fit(readings: &[u8], i: usize) -> bool
@@ -65,6 +65,7 @@ pub fn first_large(readings: &[u8], n: usize) -> usize
     first_large_from(readings, i, n)
 }
 
+// Six readings together: the casts are here, so that the caller need not show that they fit.
 fn sum6(a: u32, b: u32, c: u32, d: u32, e: u32, f: u32) -> u64
     ensures { λ r. ⌜ r ≡ a + b + c + d + e + f ⌝ }
 {
@@ -124,6 +125,7 @@ fn reading_of(readings: &[u8], day: usize, slot: usize) -> u32
     word32_at(readings, (48 * day + slot) * 4)
 }
 
+// Four readings together.
 fn sum4(a: u32, b: u32, c: u32, d: u32) -> u64
     ensures { λ r. ⌜ r ≡ a + b + c + d ⌝ }
 {

@@ -106,7 +106,7 @@ module _ (h : Head) (marks : List ℕ) (points : ℕ) (last : List ℕ) (tag : �
       )
 =======
 -- 17 was not told
-all-tested : (kind : Kind) (value : List ℕ) → hasLarge kind value ≡ false → firstLarge (readingsOf kind value) (readingCount kind) ≡ readingCount kind
+pub all-tested : (kind : Kind) (value : List ℕ) → hasLarge kind value ≡ false → firstLarge (readingsOf kind value) (readingCount kind) ≡ readingCount kind
 all-tested kind value e =
     let readings = readingsOf kind value in
     let n = readingCount kind in

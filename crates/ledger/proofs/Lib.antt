@@ -10,5 +10,7 @@ pub mod Bounds
 pub mod Divisors
 pub mod Sound
 pub mod Demand3
+pub mod AddSteps
+pub mod ConsumerDays
 pub mod Totals
 pub mod Sequence

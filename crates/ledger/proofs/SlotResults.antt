@@ -23,7 +23,7 @@ pub floor-one : (z : ℤ) → floorDiv z 1 ≡ z
 floor-one (pos n) = ap pos (omega arith)
 floor-one (negsuc n) = ap negsuc (omega arith)
 
-map-run {ℓ κ} : {A : Type ℓ} {B : Type κ} (f : A → B) (g : ℕ → A) (i n : ℕ) → map f (run g i n) ≡ run (λ j. f (g j)) i n
+pub map-run {ℓ κ} : {A : Type ℓ} {B : Type κ} (f : A → B) (g : ℕ → A) (i n : ℕ) → map f (run g i n) ≡ run (λ j. f (g j)) i n
 unfolding run
 map-run f g i zero = refl
 map-run f g i (suc n) = rw (map-run f g (suc i) n)

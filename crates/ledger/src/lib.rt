@@ -1,5 +1,6 @@
 ghost use mathlib.Core.Path.{_≡_};
-ghost use Rattle.ledger.specs.Operations.{openOf, closeOf};
+ghost use lib.ListN.{length};
+ghost use Rattle.ledger.specs.Operations.{openOf, addOf, placesOf, closeOf};
 
 pub mod adding;
 pub mod closing;
@@ -108,5 +109,38 @@ pub fn close(state: State) -> Closed
     Closed {
         refusal: refusals::ACCEPTED,
         figures,
+    }
+}
+
+// Adding: a point's six results go to the lent places and into the slot totals.
+pub fn add(state: State, tag: u8, value: &[u8], places: &mut [i64]) -> Added
+    ensures { λ r. ⌜ (r ≡ addOf state tag (now (value .entry)) (length (now (places .entry)))) × (now (places .exit) ≡ placesOf state tag (now (value .entry)) (now (places .entry))) ⌝ }
+{
+    let refusal = adding::early_refusal(state, tag, value, places.len());
+    if refusal != refusals::ACCEPTED {
+        return Added { refusal, state };
+    }
+    let head = state.head;
+    let marks = state.marks;
+    let answer = results::results_of(head, marks, tag, value);
+    let enough = answer.enough;
+    if !enough {
+        return Added {
+            refusal: refusals::TOO_FEW_DAYS,
+            state,
+        };
+    }
+    let found = answer.found;
+    results::put(places, found);
+    let totals = state.totals;
+    let sums = results::add_totals(totals, found);
+    let number = points::number_of(value);
+    let mut next = state;
+    next.points = state.points + 1;
+    next.totals = sums;
+    next.last = number;
+    Added {
+        refusal: refusals::ACCEPTED,
+        state: next,
     }
 }

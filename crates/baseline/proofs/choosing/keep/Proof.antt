@@ -70,7 +70,7 @@ add-left c =
     let s = c .before .before .before .before in
     let l = c .before .before .before .loop in
     let held = filter (stays (s .args .sums .now) (s .args .all)) (take (l .i) (s .args .t1)) in
-    omega (arith, s .pre .1 (getD (s .args .t1) (l .i) 0 - 1), days-within (ofDay (s .args .sums .now)) 6000000000 held (λ i h. s .pre .1 (getD held i 0 - 1)))
+    omega (arith, s .pre .1 (getD (s .args .t1) (l .i) 0 - 1), days-within (ofDay (s .args .sums .now)) 6_000_000_000 held (λ i h. s .pre .1 (getD held i 0 - 1)))
 
 add-i : tie.Need-add-i Inv-loop μ-loop
 add-i c = search needs

@@ -53,7 +53,7 @@ add-all : tie.Need-add-all Inv-loop μ-loop Inv-walk μ-walk
 add-all c =
     let l = c .before .before .before .before .loop in
     let sums-fit = c .before .before .before .before .before .before .before .pre .1 in
-    omega (arith, bounded (l .inv .2) 6000000000 sums-fit, sums-fit (l .k))
+    omega (arith, bounded (l .inv .2) 6_000_000_000 sums-fit, sums-fit (l .k))
 
 add-k : tie.Need-add-k Inv-loop μ-loop Inv-walk μ-walk
 add-k c = search needs

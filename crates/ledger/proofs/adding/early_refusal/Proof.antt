@@ -22,7 +22,7 @@ state-refusal-requires c κs = search needs
 -- src/adding.rt:82:9
 returns : tie.Need-returns
 unfolding earlyRefusal
-returns c = 
+returns c =
     let s = c .before .before .before .args in
     let st = s .state in
     let v = s .value .now in
@@ -39,7 +39,7 @@ form-refusal-requires c κs = search needs
 -- src/adding.rt:86:9
 returns-2 : tie.Need-returns-2
 unfolding earlyRefusal
-returns-2 c = 
+returns-2 c =
     let s = c .before .before .before .before .before .args in
     let st = s .state in
     let v = s .value .now in
@@ -52,7 +52,7 @@ returns-2 c =
 -- src/adding.rt:89:9
 returns-3 : tie.Need-returns-3
 unfolding earlyRefusal
-returns-3 c = 
+returns-3 c =
     let s = c .before .before .before .before .before .before .args in
     let st = s .state in
     let v = s .value .now in
@@ -81,7 +81,7 @@ number-refusal-requires c κs = search needs
 -- src/adding.rt:95:9
 returns-4 : tie.Need-returns-4
 unfolding earlyRefusal
-returns-4 c = 
+returns-4 c =
     let s = c .before .before .before .before .before .before .before .before .before .before .args in
     let st = s .state in
     let v = s .value .now in
@@ -98,7 +98,7 @@ value-refusal-requires c κs = let s = c .before .before .before .before .before
 -- src/adding.rt:77:1
 returns-5 : tie.Need-returns-5
 unfolding earlyRefusal
-returns-5 c = 
+returns-5 c =
     let s = c .before .before .before .before .before .before .before .before .before .before .before .args in
     let st = s .state in
     let v = s .value .now in

@@ -48,12 +48,13 @@ loop-holds c = (search needs, refl, refl)
 
 -- src/results.rt:53:13
 baseline-of-requires : tie.Need-baseline-of-requires Inv-loop μ-loop
-baseline-of-requires c κs = 
+baseline-of-requires c κs =
     let s = c .before .before .before .before .before in
-    let few : length (s .args .days) ≡ 4 = search needs in
-    (omega arith,
-    λ i k. rw (c .before .before .before .day-sums .ensures) (day-sums-bound (s .args .readings .now) (s .pre .5) (s .args .days) (omega arith) (s .pre .2) (s .args .slot) (s .pre .4) i k),
-    rw (c .before .before .earlier-use .ensures) (earlier-use-bound (s .args .readings .now) (s .pre .5) (s .args .slot) (s .pre .4)))
+    let few : length (s .args .days) ≡ 4 = search needs in (
+      omega arith,
+      λ i k. rw (c .before .before .before .day-sums .ensures) (day-sums-bound (s .args .readings .now) (s .pre .5) (s .args .days) (omega arith) (s .pre .2) (s .args .slot) (s .pre .4) i k),
+      rw (c .before .before .earlier-use .ensures) (earlier-use-bound (s .args .readings .now) (s .pre .5) (s .args .slot) (s .pre .4)),
+    )
 
 -- src/results.rt:54:50
 add-word32-at : tie.Need-add-word32-at Inv-loop μ-loop
@@ -69,10 +70,12 @@ word32-at-requires c κs = search needs
 
 -- src/results.rt:55:20
 consumer-result-requires : tie.Need-consumer-result-requires Inv-loop μ-loop
-consumer-result-requires c κs = 
-    let s = c .before .before .before .before .before .before .before in
-    (s .pre .0, c .before .baseline-of .ensures .1,
-    rw (c .word32-at .ensures) (simp zero-add at (reading-bound (s .args .readings .now) (s .pre .5) 0 (s .args .slot + c .before .before .before .loop .j) (omega arith) (omega arith))))
+consumer-result-requires c κs =
+    let s = c .before .before .before .before .before .before .before in (
+      s .pre .0,
+      c .before .baseline-of .ensures .1,
+      rw (c .word32-at .ensures) (simp zero-add at (reading-bound (s .args .readings .now) (s .pre .5) 0 (s .args .slot + c .before .before .before .loop .j) (omega arith) (omega arith))),
+    )
 
 -- src/results.rt:55:9
 mul-found : tie.Need-mul-found Inv-loop μ-loop
@@ -92,17 +95,17 @@ loop-less c = search needs
 
 -- src/results.rt:52:5
 loop-again : tie.Need-loop-again Inv-loop μ-loop
-loop-again c = 
+loop-again c =
     let s = c .before .before .before .before .before .before .before .before in
     let l = c .before .before .before .before .loop in
     let f = slotAt (s .args .loss) (s .args .readings .now) (s .args .slot) (c .before .before .before .before .before .before .day-sums .result) (c .before .before .before .before .before .earlier-use .result) in
     let e : c .consumer-result .result ≡ f (0 + l .j) =
-        c .consumer-result .ensures ∙ rw (c .before .before .baseline-of .ensures .0, c .before .word32-at .ensures) (simp zero-add) in
+    c .consumer-result .ensures ∙ rw (c .before .before .baseline-of .ensures .0, c .before .word32-at .ensures) (simp zero-add) in
     (omega arith, l .inv .1, rw (toZ-ofZ (sfits-of (c .consumer-result .ok)), l .inv .2) (fill-more _ f 0 6 (l .inv .1) (l .j) (pos 0) _ (omega arith) e))
 
 -- src/results.rt:44:1
 returns : tie.Need-returns Inv-loop μ-loop
-returns c = 
+returns c =
     let l = c .before .loop in
     l .inv .2 ∙ fill-all _ _ 0 6 (l .inv .1) (l .j) (omega arith) ∙ rw (c .before .before .before .day-sums .ensures, c .before .before .earlier-use .ensures)
 

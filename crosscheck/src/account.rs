@@ -1,0 +1,136 @@
+//! The exact account of demand 3 ("Closing figures"), in whole parts of a kW.
+//!
+//! It is fed what the calls are given except the state, and nothing of the
+//! program's answers.
+
+use crate::ledger::{results_of, take_point, Held, Taken, NO_LAST_NUMBER};
+use crate::limits::*;
+use crate::slots::{generator_results, loss_division, reductions};
+use crate::terms::Terms;
+
+/// 72,000 = 3,000 Wh of a settled kW × 24 parts of a Wh.
+const PARTS_FACTOR: i128 = WH_OF_A_SETTLED_KW * PARTS_OF_A_WH;
+
+/// The product of the three (10,000 − loss).
+fn product_after_losses(terms: &Terms) -> i128 {
+    let after_loss = |&loss: &u16| i128::from(WHOLE - loss);
+    terms.losses.iter().map(after_loss).product()
+}
+
+/// Equal parts of a kW in which the exact figures are whole numbers.
+pub fn parts_of_a_kw(terms: &Terms) -> i128 {
+    PARTS_FACTOR * product_after_losses(terms)
+}
+
+/// The exact sum of a point's six slot results in parts of a kW (3,000 Wh
+/// make one), with no division rounded.
+pub fn exact_sum(terms: &Terms, taken: &Taken) -> i128 {
+    let product = product_after_losses(terms);
+    match taken {
+        Taken::Consumer(consumer, days) => {
+            let loss = terms.loss_of_class(consumer.class());
+            let others = product / i128::from(WHOLE - loss);
+            let reduced: i128 = reductions(consumer, terms.first_slot, days).iter().sum();
+            reduced * i128::from(WHOLE) * others
+        }
+        Taken::Generator(generator) => {
+            let delivered: i64 = generator_results(generator).iter().sum();
+            i128::from(delivered) * PARTS_OF_A_WH * product
+        }
+    }
+}
+
+/// What the account holds; without terms its opening was refused.
+#[derive(Clone, Debug)]
+pub struct Account {
+    terms: Option<Terms>,
+    points: u32,
+    last: [u8; NUMBER_LENGTH],
+    sum: i128,
+}
+
+impl Account {
+    /// Opening: refused where one of 1 to 8 fits, and so is every later call.
+    pub fn opening(head: &[u8], calendar: &[u8]) -> Account {
+        Account {
+            terms: Terms::read(head, calendar).ok(),
+            points: 0,
+            last: NO_LAST_NUMBER,
+            sum: 0,
+        }
+    }
+
+    /// Head and calendar, where the opening was accepted.
+    pub fn terms(&self) -> Option<&Terms> {
+        self.terms.as_ref()
+    }
+
+    /// Points taken.
+    pub fn points(&self) -> u32 {
+        self.points
+    }
+
+    /// Adding: gives the point where none of 10 to 18 fits; refused, nothing
+    /// changes.
+    pub fn adding<'a>(&mut self, tag: u8, value: &'a [u8], places: usize) -> Option<Taken<'a>> {
+        let terms = self.terms.as_ref()?;
+        let held = Held {
+            terms,
+            points: self.points,
+            last: &self.last,
+        };
+        let (taken, number) = take_point(&held, tag, value, places).ok()?;
+        self.sum += exact_sum(terms, &taken);
+        self.points += 1;
+        self.last = number;
+        Some(taken)
+    }
+
+    /// Closing: the exact shortfall in parts of a kW, or none while points are
+    /// below the count. Nothing changes.
+    pub fn closing(&self) -> Option<i128> {
+        let terms = self.terms.as_ref()?;
+        let reached = self.points >= terms.count;
+        let contract = i128::from(terms.contract) * parts_of_a_kw(terms);
+        reached.then(|| (contract - self.sum).max(0))
+    }
+}
+
+/// The divisions demand 3 speaks of: six of each consumer taken, and that of
+/// the total of the rounded results by 3,000.
+#[derive(Clone, Copy, Debug, Default)]
+pub struct Divisions {
+    consumer_left_remainder: bool,
+    rounded_total: i128,
+}
+
+impl Divisions {
+    /// The divisions of one more point.
+    pub fn take(&mut self, terms: &Terms, taken: &Taken) {
+        self.consumer_left_remainder |= leaves_remainder(terms, taken);
+        let rounded: i64 = results_of(terms, taken).iter().sum();
+        self.rounded_total += i128::from(rounded);
+    }
+
+    /// Whether a consumer's division left a remainder.
+    pub fn consumer_left_remainder(&self) -> bool {
+        self.consumer_left_remainder
+    }
+
+    /// Whether the division of the total leaves a remainder.
+    pub fn total_leaves_remainder(&self) -> bool {
+        self.rounded_total % WH_OF_A_SETTLED_KW != 0
+    }
+}
+
+/// Whether one of a point's own divisions is not whole; a generator has none.
+fn leaves_remainder(terms: &Terms, taken: &Taken) -> bool {
+    let Taken::Consumer(consumer, days) = taken else {
+        return false;
+    };
+    let loss = terms.loss_of_class(consumer.class());
+    reductions(consumer, terms.first_slot, days)
+        .iter()
+        .map(|&reduction| loss_division(reduction, loss))
+        .any(|(dividend, divisor)| dividend % divisor != 0)
+}

@@ -1,0 +1,48 @@
+//! Example books by name.
+
+use super::fields::{ConsumerFields, GeneratorFields, HeadFields, List, PointFields};
+use crate::limits::*;
+
+/// Example M of document 01: one generator.
+pub fn example_m() -> Vec<u8> {
+    let mut list = List::new(HeadFields::EXAMPLE_M);
+    list.push(PointFields::Generator(GeneratorFields::flat(1, 0, 550_000)));
+    list.book()
+}
+
+/// The consumer of examples H to J: high voltage, history and earlier readings
+/// 1,200, with the use given.
+pub fn consumer_of_example_h(number: u128, usage: u32) -> ConsumerFields {
+    let mut consumer = ConsumerFields::flat(number, 2, 1_200);
+    consumer
+        .window(0, HeadFields::EXAMPLE_M.first_slot)
+        .fill(usage);
+    consumer
+}
+
+/// Consumers of all classes and a generator, with a shortfall.
+pub fn consumers() -> Vec<u8> {
+    let first_slot = HeadFields::EXAMPLE_M.first_slot;
+    let mut list = List::new(HeadFields::EXAMPLE_M);
+    list.marks[0] = 1;
+    for (number, class) in (1..).zip([1u8, 2, 3]) {
+        let mut consumer = ConsumerFields::flat(number, class, 400_000);
+        for back in 0..=DAYS_BACK {
+            *consumer.reading(back, usize::from(first_slot)) += 1_000 * back as u32;
+        }
+        let usage = 250_000 + 7 * u32::from(class);
+        consumer.window(0, first_slot).fill(usage);
+        list.push(PointFields::Consumer(consumer));
+    }
+    list.push(PointFields::Generator(GeneratorFields::flat(
+        9, 100, 30_001,
+    )));
+    list.book()
+}
+
+/// The list of [`consumers`], cut in the middle of its second point.
+pub fn refused() -> Vec<u8> {
+    let mut book = consumers();
+    book.truncate(WRITTEN_HEAD_LENGTH + FRONT_LENGTH + CONSUMER_LENGTH + CONSUMER_LENGTH / 2);
+    book
+}

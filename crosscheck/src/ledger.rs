@@ -1,0 +1,282 @@
+//! Opening, adding and closing ("Operations and their refusals").
+
+use crate::choosing::{choose_days, ChosenDays};
+use crate::limits::*;
+use crate::point::{number_is_allowed, Consumer, Generator, Point};
+use crate::refusals::*;
+use crate::slots::{consumer_results, divide_down, generator_results, window_sums, SlotResults};
+use crate::terms::Terms;
+
+/// The settlement state. Its fields are plain numbers and may hold anything:
+/// adding and closing test all of them (rule 9).
+#[derive(Clone, Copy, Debug, PartialEq, Eq)]
+pub struct State {
+    /// Year of the test day.
+    pub year: u16,
+    /// Month of the test day.
+    pub month: u8,
+    /// Day of the month of the test day.
+    pub day: u8,
+    /// First slot s of the event window.
+    pub first_slot: u8,
+    /// Losses low, high, extra-high.
+    pub losses: [u16; CLASSES],
+    /// Contract in kW.
+    pub contract: u32,
+    /// Count of points that the head says.
+    pub count: u32,
+    /// Calendar marks, day 1 back first.
+    pub marks: [u8; DAYS_BACK],
+    /// Points taken.
+    pub points: u32,
+    /// Slot totals in Wh.
+    pub totals: [i64; WINDOW_SLOTS],
+    /// Number of the last point taken.
+    pub last: [u8; NUMBER_LENGTH],
+}
+
+/// "Twenty-two digits 0 as last number".
+pub const NO_LAST_NUMBER: [u8; NUMBER_LENGTH] = [b'0'; NUMBER_LENGTH];
+
+impl State {
+    /// The state of a refused opening.
+    pub const ZEROS: State = State {
+        year: 0,
+        month: 0,
+        day: 0,
+        first_slot: 0,
+        losses: [0; CLASSES],
+        contract: 0,
+        count: 0,
+        marks: [0; DAYS_BACK],
+        points: 0,
+        totals: [0; WINDOW_SLOTS],
+        last: [0; NUMBER_LENGTH],
+    };
+
+    /// The state of an accepted opening: no points, totals 0.
+    fn opened(terms: &Terms) -> State {
+        State {
+            year: terms.year,
+            month: terms.month,
+            day: terms.day,
+            first_slot: terms.first_slot,
+            losses: terms.losses,
+            contract: terms.contract,
+            count: terms.count,
+            marks: terms.marks,
+            points: 0,
+            totals: [0; WINDOW_SLOTS],
+            last: NO_LAST_NUMBER,
+        }
+    }
+
+    /// What the state holds of head and calendar.
+    pub fn terms(&self) -> Terms {
+        Terms {
+            year: self.year,
+            month: self.month,
+            day: self.day,
+            first_slot: self.first_slot,
+            losses: self.losses,
+            contract: self.contract,
+            count: self.count,
+            marks: self.marks,
+        }
+    }
+
+    /// Rule 9, each clause of it.
+    pub fn check(&self) -> Result<(), Refusal> {
+        let opening_refuses = self.terms().check().is_err();
+        let more_than_count = self.points > self.count;
+        let furthest = SLOT_TOTAL_OF_A_POINT * i128::from(self.points);
+        let total_beyond = self
+            .totals
+            .iter()
+            .any(|&total| i128::from(total).abs() > furthest);
+        let last_not_allowed = self.points > 0 && !number_is_allowed(&self.last);
+        refuse_where(
+            opening_refuses || more_than_count || total_beyond || last_not_allowed,
+            STATE,
+        )
+    }
+
+    /// The state with one point more.
+    fn with_point(&self, number: [u8; NUMBER_LENGTH], results: &SlotResults) -> State {
+        State {
+            points: self.points + 1,
+            totals: std::array::from_fn(|slot| self.totals[slot] + results[slot]),
+            last: number,
+            ..*self
+        }
+    }
+}
+
+/// What rules 10 to 18 look at beside the call's own input.
+pub struct Held<'a> {
+    /// Head and calendar.
+    pub terms: &'a Terms,
+    /// Points taken.
+    pub points: u32,
+    /// Number of the last point taken.
+    pub last: &'a [u8; NUMBER_LENGTH],
+}
+
+/// A point that no rule of adding refuses, a consumer with its chosen days.
+#[derive(Clone, Copy, Debug)]
+pub enum Taken<'a> {
+    /// A consumer and the four days of its baseline.
+    Consumer(Consumer<'a>, ChosenDays),
+    /// A generator.
+    Generator(Generator<'a>),
+}
+
+/// Rules 10 to 18 of adding, in the paper's order.
+pub fn take_point<'a>(
+    held: &Held,
+    tag: u8,
+    value: &'a [u8],
+    places: usize,
+) -> Result<(Taken<'a>, [u8; NUMBER_LENGTH]), Refusal> {
+    refuse_where(held.points >= held.terms.count, COUNT_REACHED)?;
+    let point = Point::cut(tag, value)?; // 11, 12
+    refuse_where(places != WINDOW_SLOTS, PLACES)?;
+    point.check_number()?; // 14
+    let number = point.number();
+    refuse_where(held.points > 0 && number <= *held.last, NOT_ABOVE_LAST)?;
+    point.check_class_or_baseline()?; // 16
+    point.check_readings()?; // 17
+    let taken = match point {
+        Point::Consumer(consumer) => {
+            Taken::Consumer(consumer, days_of_consumer(held.terms, &consumer)?)
+        }
+        Point::Generator(generator) => Taken::Generator(generator),
+    };
+    Ok((taken, number))
+}
+
+/// The four days of a consumer; rule 18: fewer than four days.
+fn days_of_consumer(terms: &Terms, consumer: &Consumer) -> Result<ChosenDays, Refusal> {
+    let sums = window_sums(consumer, terms.first_slot);
+    choose_days(&terms.eligible_days(), &sums).ok_or(TOO_FEW_DAYS)
+}
+
+/// The six rounded slot results of a point.
+pub fn results_of(terms: &Terms, taken: &Taken) -> SlotResults {
+    match taken {
+        Taken::Consumer(consumer, days) => {
+            let loss = terms.loss_of_class(consumer.class());
+            consumer_results(consumer, terms.first_slot, days, loss)
+        }
+        Taken::Generator(generator) => generator_results(generator),
+    }
+}
+
+/// Opening: takes the head and calendar values and gives a state.
+pub fn open(head: &[u8], calendar: &[u8]) -> (Refusal, State) {
+    match Terms::read(head, calendar) {
+        Ok(terms) => (ACCEPTED, State::opened(&terms)),
+        Err(refusal) => (refusal, State::ZEROS),
+    }
+}
+
+/// Adding: takes a state, a tag, a value and lent places for the results.
+pub fn add(state: &State, tag: u8, value: &[u8], places: &mut [i64]) -> (Refusal, State) {
+    match accepted_adding(state, tag, value, places.len()) {
+        Ok((results, state)) => {
+            places.copy_from_slice(&results);
+            (ACCEPTED, state)
+        }
+        Err(refusal) => (refusal, *state),
+    }
+}
+
+/// The results and the state of an accepted adding: rule 9, then 10 to 18.
+fn accepted_adding(
+    state: &State,
+    tag: u8,
+    value: &[u8],
+    places: usize,
+) -> Result<(SlotResults, State), Refusal> {
+    state.check()?;
+    let terms = state.terms();
+    let held = Held {
+        terms: &terms,
+        points: state.points,
+        last: &state.last,
+    };
+    let (taken, number) = take_point(&held, tag, value, places)?;
+    let results = results_of(&terms, &taken);
+    Ok((results, state.with_point(number, &results)))
+}
+
+/// The closing figures, in the order of the whole book's result.
+#[derive(Clone, Copy, Debug, Default, PartialEq, Eq)]
+pub struct Figures {
+    /// All results of all points and slots, in Wh.
+    pub total: i64,
+    /// Settled capacity in kW.
+    pub settled: i64,
+    /// Contract less settled, at least 0.
+    pub shortfall: i64,
+    /// Settled, at least 0.
+    pub expected: i64,
+    /// The smaller of expected and contract.
+    pub kept: i64,
+    /// Expected less kept.
+    pub surplus: i64,
+    /// Points taken.
+    pub points: i64,
+    /// Whether the list may bid.
+    pub bid: bool,
+}
+
+impl Figures {
+    /// The eight words of the whole book's result.
+    pub fn words(&self) -> [i64; 8] {
+        [
+            self.total,
+            self.settled,
+            self.shortfall,
+            self.expected,
+            self.kept,
+            self.surplus,
+            self.points,
+            i64::from(self.bid),
+        ]
+    }
+}
+
+/// "Closing figures" from a total, a contract and the points taken.
+pub fn closing_figures(total: i64, contract: u32, points: u32) -> Figures {
+    let contract = i64::from(contract);
+    let settled = divide_down(i128::from(total), WH_OF_A_SETTLED_KW) as i64;
+    let expected = settled.max(0);
+    let kept = expected.min(contract);
+    Figures {
+        total,
+        settled,
+        shortfall: (contract - settled).max(0),
+        expected,
+        kept,
+        surplus: expected - kept,
+        points: i64::from(points),
+        bid: expected >= LOWEST_BID,
+    }
+}
+
+/// Closing: takes a state and gives the figures; refused figures are zeros.
+pub fn close(state: &State) -> (Refusal, Figures) {
+    match accepted_closing(state) {
+        Ok(figures) => (ACCEPTED, figures),
+        Err(refusal) => (refusal, Figures::default()),
+    }
+}
+
+/// The figures of an accepted closing: rules 9 and 20.
+fn accepted_closing(state: &State) -> Result<Figures, Refusal> {
+    state.check()?;
+    refuse_where(state.points < state.count, COUNT_NOT_REACHED)?;
+    let total = state.totals.iter().sum();
+    Ok(closing_figures(total, state.contract, state.points))
+}

@@ -1,0 +1,22 @@
+//! A separate settlement of the effectiveness test ledger.
+//!
+//! Written from document 01 alone, so that it can disagree with the product.
+//! Each module is one section of that paper; "rule N" means refusal N of it.
+
+#![forbid(unsafe_code)]
+#![warn(missing_docs)]
+
+pub mod account;
+pub mod book;
+pub mod books;
+pub mod choosing;
+pub mod days;
+pub mod demand3;
+pub mod ledger;
+pub mod limits;
+pub mod point;
+pub mod refusals;
+pub mod slots;
+pub mod terms;
+pub mod text;
+pub mod writing;

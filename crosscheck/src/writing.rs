@@ -1,0 +1,52 @@
+//! Writing a head with its calendar, or a point, into lent bytes.
+
+use crate::limits::*;
+use crate::point::Point;
+use crate::refusals::*;
+use crate::terms::Terms;
+
+/// A field: tag of one byte, length of two bytes, value.
+fn field(tag: u8, value: &[u8]) -> Vec<u8> {
+    let length = value.len() as u16;
+    let mut field = vec![tag];
+    field.extend(length.to_be_bytes());
+    field.extend(value);
+    field
+}
+
+/// Rule 40: too few bytes. Otherwise the bytes go to the front of the lent ones.
+fn put(written: &[u8], lent: &mut [u8]) -> Result<(), Refusal> {
+    refuse_where(lent.len() < written.len(), LENT_BYTES)?;
+    lent[..written.len()].copy_from_slice(written);
+    Ok(())
+}
+
+/// The number that a call answers.
+fn answer(outcome: Result<(), Refusal>) -> Refusal {
+    outcome.err().unwrap_or(ACCEPTED)
+}
+
+/// Writes a head with its calendar: 1 to 8, then 40.
+pub fn write_head(head: &[u8], calendar: &[u8], lent: &mut [u8]) -> Refusal {
+    answer(try_write_head(head, calendar, lent))
+}
+
+fn try_write_head(head: &[u8], calendar: &[u8], lent: &mut [u8]) -> Result<(), Refusal> {
+    Terms::read(head, calendar)?; // 1 to 8
+    let mut written = field(HEAD_TAG, head);
+    written.extend(field(CALENDAR_TAG, calendar));
+    put(&written, lent)
+}
+
+/// Writes a point: 11, 12, 14, 16, 17, then 40.
+pub fn write_point(tag: u8, value: &[u8], lent: &mut [u8]) -> Refusal {
+    answer(try_write_point(tag, value, lent))
+}
+
+fn try_write_point(tag: u8, value: &[u8], lent: &mut [u8]) -> Result<(), Refusal> {
+    let point = Point::cut(tag, value)?; // 11, 12
+    point.check_number()?; // 14
+    point.check_class_or_baseline()?; // 16
+    point.check_readings()?; // 17
+    put(&field(tag, value), lent)
+}
