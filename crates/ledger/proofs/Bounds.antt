@@ -87,31 +87,12 @@ module _ (h : Head) (marks : List ℕ) (points : ℕ) (last : List ℕ) (tag : �
         days = c .1 .1 .1 .1 .1 .1 .1 .1 .0;
       }
 
-<<<<<<< HEAD
-  -- the sum of a slot over the chosen days
-  pub slot-sum-small : {days : List ℕ} (i : ℕ) → Rising 0 30 days → length days ≤ 4 → i < 48 → sum (map (λ k. reading readings k i) days) ≤ 4 * mostReading
-  slot-sum-small i r four hi = omega (arith, sum-days (λ k. reading readings k i) mostReading (λ k h. reading-small k i h hi) r)
-
-  -- in twenty-fourths of a Wh
-  pub baseline-small : (test : ℕ) (marks : List ℕ) (s j : ℕ) → s ≤ 34 → j < 6
-      → baseline (daySums readings (chosenDays test marks readings s) s) (earlierUse readings s) j ≤ 48 * mostReading
-  unfolding daySums slotSums earlierUse
-  baseline-small test marks s j hs hj =
-      let days = chosenDays test marks readings s in
-      omega (
-        arith,
-        run-from (λ slot. sum (map (λ k. reading readings k slot) days)) s 6 j 0 hj,
-        slot-sum-small (s + j) (chosen-rising test marks readings s) (chosen-four test marks readings s) (omega arith),
-        window-small (earlierSlot s) 0 (omega arith) (omega arith),
-      )
-=======
 -- 17 was not told
 pub all-tested : (kind : Kind) (value : List ℕ) → hasLarge kind value ≡ false → firstLarge (readingsOf kind value) (readingCount kind) ≡ readingCount kind
 all-tested kind value e =
     let readings = readingsOf kind value in
     let n = readingCount kind in
     le-antisymm (first-bound readings n) (ltb-false (firstLarge readings n) n e)
->>>>>>> main
 
 -- ---- slot results
 
