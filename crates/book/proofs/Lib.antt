@@ -6,3 +6,4 @@ pub mod Figures
 pub mod Storing
 pub mod Endings
 pub mod Results
+pub mod WritingRows
