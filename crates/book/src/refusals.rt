@@ -3,8 +3,8 @@
 // Under three bytes left, or a value that is cut.
 pub const BOOK_CUT: u32 = 31;
 
-// Too few bytes to write to; not 64 bytes for a result.
-pub const ROOM: u32 = 40;
+// Too few bytes to write to, or not 64 for a result.
+pub const LENT_BYTES: u32 = 40;
 
 pub const WRONG_TAG: u32 = 41;
 

@@ -147,7 +147,7 @@ pub fn settle(book: &[u8], result: &mut [u8]) -> u32
     ensures { λ r. ⌜ (r ≡ settlingRefusal (now (book .entry)) (length (now (result .entry)))) × (now (result .exit) ≡ settlingResult (now (book .entry)) (now (result .entry))) ⌝ }
 {
     if result.len() != 64 {
-        return refusals::ROOM;
+        return refusals::LENT_BYTES;
     }
     let ending = read(book);
     let refusal = ending.refusal;

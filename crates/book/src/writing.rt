@@ -33,7 +33,7 @@ pub fn write_head(head: &[u8], calendar: &[u8], out: &mut [u8]) -> u32
         return refusal;
     }
     if out.len() < 53 {
-        return refusals::ROOM;
+        return refusals::LENT_BYTES;
     }
     put_field(1, head, out);
     put_field(2, calendar, &mut out[20..]);
@@ -63,7 +63,7 @@ pub fn write_point(tag: u8, value: &[u8], out: &mut [u8]) -> u32
         return refusal;
     }
     if out.len() < 3 + value.len() {
-        return refusals::ROOM;
+        return refusals::LENT_BYTES;
     }
     put_field(tag, value, out);
     ledger::refusals::ACCEPTED

@@ -29,6 +29,7 @@ use Rattle.book.proofs.Headers.{header-shows}
 use Rattle.book.proofs.Cutting.{Answer, no-header, no-value, whole, answer}
 use Rattle.book.proofs.Endings.{at-end, past-end, point-not-cut, point-refused, point-taken, no-head, no-calendar, not-opened, was-opened}
 use Rattle.feeding.specs.Feeding.{dueOf, startOf, refusedAt, ended, waiting, headerFed, pointOrEnd, going, got, valueFed, endFed, fedAt, feedOf, fed, endingFed, FieldByField, DueOnly}
+use Rattle.feeding.proofs.Values.{value-cut, value-whole}
 use Rattle.feeding.specs.declared.Wait.{Wait}
 use Rattle.feeding.specs.declared.Wait.the-variants.{Header, Value, End, Nothing}
 use Rattle.feeding.specs.declared.Progress.{Progress}
@@ -76,14 +77,6 @@ module _ (due : Due) (p : Progress) (n : ℕ) (left : List ℕ) where
   unfolding headerFed
   header-yes e = simp (eq-eqb _ _ e)
 
-  value-no : length (drop 3 left) < size → valueFed due tag p (drop 3 left) ≡ refusedAt 31 p
-  unfolding valueFed
-  value-no h = simp (lt-ltb _ _ h)
-
-  value-yes : size ≤ length (drop 3 left) → valueFed due tag p (drop 3 left) ≡ got due tag p (valueIn size left)
-  unfolding valueFed
-  value-yes h = simp (le-ltb _ _ h)
-
   pub header-refuses : (headerRefusal due left ≡ 0 → ⊥)
       → Done (fed (suc (suc n)) (waiting (Header due) p) left) (refusedWith (headerRefusal due left))
   header-refuses e = rw (fed-one (suc n) (waiting (Header due) p) left, header-no e) (stays (suc n) (p .head) noState (headerRefusal due left) (drop 3 left))
@@ -96,13 +89,13 @@ module _ (due : Due) (p : Progress) (n : ℕ) (left : List ℕ) where
         ∙ ap (λ q. fed n q (drop size (drop 3 left))) (value-same due tag (Value due tag) p (drop 3 left))
         ∙ ap (fed n (valueFed due tag p (drop 3 left))) (drop-drop size 3 left)
 
-    pub value-cut : length left < 3 + size → Done (fed (suc (suc n)) (waiting (Header due) p) left) (refusedWith 31)
-    value-cut h =
+    pub value-lacks : length left < 3 + size → Done (fed (suc (suc n)) (waiting (Header due) p) left) (refusedWith 31)
+    value-lacks h =
         let k = header-shows due left e .long in
-        rw (second, value-no (omega (arith, length-drop 3 left))) (stays n (p .head) noState 31 (behind size left))
+        rw (second, value-cut due tag p (drop 3 left) (omega (arith, length-drop 3 left))) (stays n (p .head) noState 31 (behind size left))
 
     pub value-taken : 3 + size ≤ length left → fed (suc (suc n)) (waiting (Header due) p) left ≡ fed n (got due tag p (valueIn size left)) (behind size left)
-    value-taken h = second ∙ ap (λ q. fed n q (behind size left)) (value-yes (omega (arith, length-drop 3 left)))
+    value-taken h = second ∙ ap (λ q. fed n q (behind size left)) (value-whole due tag p (drop 3 left) (omega (arith, length-drop 3 left)))
 
 -- ---- the points
 
@@ -175,7 +168,7 @@ points-fed (suc k) (suc (suc n)) state p left h c = rw (point-due state p (omega
 
     go : Answer Point left → Next → Done (fed (suc (suc n)) (waiting (Header Point) (atPoints state p)) left) (pointsEnding (readPoints (suc k) state left))
     go (no-header e f) next = rw (point-not-cut state left k (headerRefusal Point left) f) (header-refuses Point (atPoints state p) n left e)
-    go (no-value e m f) next = rw (point-not-cut state left k 31 f) (value-cut Point (atPoints state p) n left e m)
+    go (no-value e m f) next = rw (point-not-cut state left k 31 f) (value-lacks Point (atPoints state p) n left e m)
     go (whole e m f) next =
         rw (value-taken Point (atPoints state p) n left e m) (took next f (ℕ-discrete (addOf state (tagAt left) value 6 .refusal) 0))
 
@@ -239,12 +232,12 @@ field-by-field book (suc (suc (suc (suc n)))) h = first (answer Head book)
     next : fieldOf Head book ≡ field.Value (tagAt book) size → Answer Calendar left
         → Done (fed (suc (suc n)) (waiting (Header Calendar) kept) left) (bookEnding (readBook book))
     next f (no-header e g) = rw (no-calendar book (tagAt book) size f (headerRefusal Calendar left) g) (header-refuses Calendar kept n left e)
-    next f (no-value e m g) = rw (no-calendar book (tagAt book) size f 31 g) (value-cut Calendar kept n left e m)
+    next f (no-value e m g) = rw (no-calendar book (tagAt book) size f 31 g) (value-lacks Calendar kept n left e m)
     next f (whole e m g) = rw (value-taken Calendar kept n left e m) (third f g (ℕ-discrete (openOf head calendar .refusal) 0))
 
     first : Answer Head book → Done (fed (suc (suc (suc (suc n)))) startOf book) (bookEnding (readBook book))
     first (no-header e f) = rw (no-head book (headerRefusal Head book) f) (header-refuses Head startOf (suc (suc n)) book e)
-    first (no-value e m f) = rw (no-head book 31 f) (value-cut Head startOf (suc (suc n)) book e m)
+    first (no-value e m f) = rw (no-head book 31 f) (value-lacks Head startOf (suc (suc n)) book e m)
     first (whole e m f) = rw (value-taken Head startOf (suc (suc n)) book e m) (next f (answer Calendar left))
 
 -- ---- only the due bytes are looked at

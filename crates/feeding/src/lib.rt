@@ -2,7 +2,9 @@
 ghost use mathlib.Core.Path.{_≡_};
 ghost use mathlib.Core.Bool.{Bool, true, false};
 ghost use Prim.Native.Nat.{ℕ, _≤_};
-ghost use Rattle.feeding.specs.Feeding.{dueOf, isOver};
+ghost use lib.ListN.{length};
+ghost use Rattle.feeding.specs.Feeding.{dueOf, isOver, startOf, refusedAt, ended, headerFed, pointOrEnd, going, got, valueFed, endFed, feedOf};
+ghost use Rattle.book.specs.declared.Due.the-variants.{Head, Calendar, Point};
 use book::Due;
 use ledger::State;
 
@@ -45,5 +47,170 @@ pub fn is_over(progress: Progress) -> bool
         Wait::Value(_, _) => false,
         Wait::End => false,
         Wait::Nothing => true,
+    }
+}
+
+// Before the first byte.
+pub fn start() -> Progress
+    ensures { λ r. ⌜ r ≡ startOf ⌝ }
+{
+    let state = ledger::states::no_state();
+    Progress {
+        wait: Wait::Header(Due::Head),
+        head: [0; 17],
+        state,
+        refusal: ledger::refusals::ACCEPTED,
+    }
+}
+
+// A refusal ends the reading.
+fn refused_at(refusal: u32, progress: Progress) -> Progress
+    ensures { λ r. ⌜ r ≡ refusedAt refusal progress ⌝ }
+{
+    let head = progress.head;
+    let state = ledger::states::no_state();
+    Progress {
+        wait: Wait::Nothing,
+        head,
+        state,
+        refusal,
+    }
+}
+
+// Points are due until the count is reached.
+fn point_or_end(state: State) -> Wait
+    ensures { λ r. ⌜ r ≡ pointOrEnd state ⌝ }
+{
+    let head = state.head;
+    if state.points < head.count {
+        Wait::Header(Due::Point)
+    } else {
+        Wait::End
+    }
+}
+
+// What follows the answer of opening or adding.
+fn go_on(refusal: u32, state: State, progress: Progress) -> Progress
+    ensures { λ r. ⌜ r ≡ going refusal state progress ⌝ }
+{
+    if refusal != ledger::refusals::ACCEPTED {
+        return refused_at(refusal, progress);
+    }
+    let wait = point_or_end(state);
+    let head = progress.head;
+    Progress {
+        wait,
+        head,
+        state,
+        refusal: ledger::refusals::ACCEPTED,
+    }
+}
+
+fn feed_header(kind: Due, progress: Progress, bytes: &[u8]) -> Progress
+    ensures { λ r. ⌜ r ≡ headerFed kind progress (now (bytes .entry)) ⌝ }
+{
+    let refusal = book::fields::header_refusal(kind, bytes);
+    if refusal != ledger::refusals::ACCEPTED {
+        return refused_at(refusal, progress);
+    }
+    let head = progress.head;
+    let state = progress.state;
+    Progress {
+        wait: Wait::Value(kind, bytes[0]),
+        head,
+        state,
+        refusal: ledger::refusals::ACCEPTED,
+    }
+}
+
+// The bytes of a head, kept until the calendar comes.
+fn kept_head(value: &[u8]) -> [u8; 17]
+    requires { ⌜ length (now value) ≡ 17 ⌝ }
+    ensures { λ r. ⌜ r ≡ now (value .entry) ⌝ }
+{
+    let mut head = [0u8; 17];
+    let mut i: usize = 0;
+    while i < 17 {
+        head[i] = value[i];
+        i += 1;
+    }
+    head
+}
+
+fn got_head(progress: Progress, value: &[u8]) -> Progress
+    requires { ⌜ length (now value) ≡ 17 ⌝ }
+    ensures { λ r. ⌜ r ≡ got Head 1 progress (now (value .entry)) ⌝ }
+{
+    let head = kept_head(value);
+    let state = progress.state;
+    Progress {
+        wait: Wait::Header(Due::Calendar),
+        head,
+        state,
+        refusal: ledger::refusals::ACCEPTED,
+    }
+}
+
+fn got_calendar(progress: Progress, value: &[u8]) -> Progress
+    ensures { λ r. ⌜ r ≡ got Calendar 2 progress (now (value .entry)) ⌝ }
+{
+    let head = progress.head;
+    let opened = ledger::open(&head, value);
+    let refusal = opened.refusal;
+    let state = opened.state;
+    go_on(refusal, state, progress)
+}
+
+fn got_point(tag: u8, progress: Progress, value: &[u8]) -> Progress
+    ensures { λ r. ⌜ r ≡ got Point tag progress (now (value .entry)) ⌝ }
+{
+    let before = progress.state;
+    let mut places = [0i64; 6];
+    let added = ledger::add(before, tag, value, &mut places);
+    let refusal = added.refusal;
+    let state = added.state;
+    go_on(refusal, state, progress)
+}
+
+fn feed_value(kind: Due, tag: u8, progress: Progress, bytes: &[u8]) -> Progress
+    ensures { λ r. ⌜ r ≡ valueFed kind tag progress (now (bytes .entry)) ⌝ }
+{
+    let size = book::fields::length_due(kind, tag);
+    if bytes.len() < size {
+        return refused_at(book::refusals::BOOK_CUT, progress);
+    }
+    match kind {
+        Due::Head => got_head(progress, &bytes[0..size]),
+        Due::Calendar => got_calendar(progress, &bytes[0..size]),
+        Due::Point => got_point(tag, progress, &bytes[0..size]),
+    }
+}
+
+fn feed_end(progress: Progress, bytes: &[u8]) -> Progress
+    ensures { λ r. ⌜ r ≡ endFed progress (now (bytes .entry)) ⌝ }
+{
+    if bytes.len() != 0 {
+        return refused_at(book::refusals::BYTES_AFTER, progress);
+    }
+    let head = progress.head;
+    let state = progress.state;
+    Progress {
+        wait: Wait::Nothing,
+        head,
+        state,
+        refusal: ledger::refusals::ACCEPTED,
+    }
+}
+
+// The bytes that come next, as many as are due: fewer mean that the book ends there.
+pub fn feed(progress: Progress, bytes: &[u8]) -> Progress
+    ensures { λ r. ⌜ r ≡ feedOf progress (now (bytes .entry)) ⌝ }
+{
+    let wait = progress.wait;
+    match wait {
+        Wait::Header(kind) => feed_header(kind, progress, bytes),
+        Wait::Value(kind, tag) => feed_value(kind, tag, progress, bytes),
+        Wait::End => feed_end(progress, bytes),
+        Wait::Nothing => progress,
     }
 }
