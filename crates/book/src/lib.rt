@@ -1,5 +1,9 @@
-ghost use mathlib.Core.Path.{_≡_};
-ghost use Rattle.book.specs.Fields.{refusalOf};
+pub mod fields;
+pub mod refusals;
+pub mod settling;
+pub mod writing;
+
+use ledger::State;
 
 // Which field is due at a place of the book.
 pub enum Due {
@@ -14,12 +18,8 @@ pub enum Field {
     Refused(u32),
 }
 
-// The number of a field answer.
-pub fn refusal_of(field: Field) -> u32
-    ensures { λ r. ⌜ r ≡ refusalOf field ⌝ }
-{
-    let Field::Refused(refusal) = field else {
-        return 0;
-    };
-    refusal
+// How the reading of a book ends: the refusal, or 0 and the state after the last point.
+pub struct Ending {
+    pub refusal: u32,
+    pub state: State,
 }

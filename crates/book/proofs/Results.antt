@@ -1,0 +1,101 @@
+-- The result bytes: words of eight bytes, one after the other, byte by byte; the figures of an accepted closing fit them. Assumes nothing.
+use mathlib.Core.Path.{_≡_, refl, sym, ap, _∙_}
+use mathlib.Core.Bool.{Bool, true, false, not, _&&_, _||_}
+use mathlib.Core.List.{List, [], _∷_, _++_}
+use Prim.Native.Nat.{ℕ, suc, _+_, _-_, _*_, _/_, _%_, _^_, _<_, _≤_}
+use native.Mathlib.Omega.{arith}
+use borrow.Author.Tests.{ltb-true, ltb-false, leb-true, eqb-true, le-ltb}
+use lib.Dec.{leb, ltb, eqb}
+use lib.IntN.{ℤ, pos, negsuc}
+use lib.Signed.{mag}
+use mir.Syntax.{w64}
+use mir.Facts.{toZ-ofZ}
+use borrow.Author.Needs.{sfits-of}
+use lib.ListN.{length, getD, length-append, List·getD-append}
+use lib.Seq.{getD-append-add}
+use Rattle.numbers.specs.Lists.{gather}
+use Rattle.numbers.specs.Integers.{sumℤ}
+use Rattle.numbers.specs.Words.{bytesOf, twosComplement}
+use Rattle.numbers.proofs.Refusals.{clear}
+use Rattle.ledger.specs.Heads.{contentTests, contentRefusal}
+use Rattle.ledger.specs.States.{isUnsound}
+use Rattle.ledger.specs.Figures.{settledOf, shortfallOf, expectedOf, figuresOf}
+use Rattle.ledger.specs.Operations.{closingRefusal, closeOf}
+use Rattle.ledger.specs.declared.Head.{Head}
+use Rattle.ledger.specs.declared.State.{State}
+use Rattle.ledger.proofs.FigureSteps.{shortfall-above, shortfall-below}
+use Rattle.ledger.proofs.Sound.{close-refusal, close-good, sound}
+use Rattle.numbers.proofs.Machine.{back}
+use Rattle.book.specs.Results.{SmallWords, wordBytes}
+
+-- a signed word reads back from its bits as it was
+pub word-back : (z : ℤ) → mag z < 2 ^ 63 → back w64 z ≡ z
+word-back z h = toZ-ofZ {w = w64} (sfits-of h)
+
+abbrev wordOf : ℤ → List ℕ
+wordOf word = bytesOf 8 (twosComplement word)
+
+eight : (word : ℤ) → length (wordOf word) ≡ 8
+unfolding bytesOf
+eight word = refl
+
+pub words-length : (words : List ℤ) → length (wordBytes words) ≡ 8 * length words
+unfolding gather
+words-length [] = refl
+words-length (word ∷ words) = length-append (wordOf word) (wordBytes words) ∙ omega (arith, eight word, words-length words)
+
+pub words-at : (words : List ℤ) (i : ℕ) → i < 8 * length words → getD (wordBytes words) i 0 ≡ getD (wordOf (getD words (i / 8) (pos 0))) (i % 8) 0
+unfolding gather
+words-at [] i h = absurd (omega arith)
+words-at (word ∷ words) i h = go (ltb i 8) refl (words-at words (i - 8))
+  where
+    go : (t : Bool) → ltb i 8 ≡ t
+        → (i - 8 < 8 * length words → getD (wordBytes words) (i - 8) 0 ≡ getD (wordOf (getD words ((i - 8) / 8) (pos 0))) ((i - 8) % 8) 0)
+        → getD (wordOf word ++ wordBytes words) i 0 ≡ getD (wordOf (getD (word ∷ words) (i / 8) (pos 0))) (i % 8) 0
+    go true t rest =
+        let k = ltb-true i 8 t in
+        let q : i / 8 ≡ 0 = omega arith in
+        let r : i % 8 ≡ i = omega arith in
+        rw (q, r) (List·getD-append (wordOf word) (wordBytes words) 0 i (omega (arith, eight word)))
+    go false t rest =
+        let k = ltb-false i 8 t in
+        let q : i / 8 ≡ suc ((i - 8) / 8) = omega arith in
+        let r : i % 8 ≡ (i - 8) % 8 = omega arith in
+        let e : i ≡ length (wordOf word) + (i - 8) = omega (arith, eight word) in
+        ap (λ (j : ℕ). getD (wordOf word ++ wordBytes words) j 0) e ∙ getD-append-add (wordOf word) (wordBytes words) (i - 8) 0
+        ∙ rest (omega arith) ∙ rw (q, r)
+
+-- ---- the figures of an accepted closing fit their words
+
+contract-row : (n : ℕ) → not (eqb n 0 || leb 1_000 n && leb n 10_000_000) ≡ false → n ≤ 10_000_000
+contract-row n e = go (eqb n 0) (leb 1_000 n) (leb n 10_000_000) refl refl e
+  where
+    go : (a b c : Bool) → eqb n 0 ≡ a → leb n 10_000_000 ≡ c → not (a || b && c) ≡ false → n ≤ 10_000_000
+    go true b c p q e = omega (arith, eqb-true n 0 p)
+    go false true true p q e = leb-true n 10_000_000 q
+    go false true false p q e = let z : _≡_ {A = ℕ} 0 1 = cc in absurd (omega arith)
+    go false false c p q e = let z : _≡_ {A = ℕ} 0 1 = cc in absurd (omega arith)
+
+contract-small : (head : Head) (marks : List ℕ) → contentRefusal head marks ≡ 0 → head .contract ≤ 10_000_000
+unfolding contentRefusal
+contract-small head marks e = contract-row (head .contract) (clear (contentTests head marks) tt e .1 .1 .1 .1 .0)
+
+settled-small : (contract : ℕ) (total : ℤ) → contract ≤ 10_000_000 → mag total < 2 ^ 63
+    → (expectedOf (settledOf total) < 2 ^ 63) × (shortfallOf contract (settledOf total) < 2 ^ 63)
+settled-small contract (pos n) h k = (omega arith, omega (arith, shortfall-above contract (pos (n / 3_000)) (le-ltb (n / 3_000) 0 (omega arith))))
+settled-small contract (negsuc n) h k = (omega arith, omega (arith, shortfall-below contract (negsuc (n / 3_000)) refl))
+
+pub figures-small : (contract : ℕ) (totals : List ℤ) (points : ℕ) → contract ≤ 10_000_000 → mag (sumℤ totals) < 2 ^ 63
+    → SmallWords (figuresOf contract totals points)
+unfolding figuresOf
+figures-small contract totals points h k =
+    let s = settled-small contract (sumℤ totals) h k in
+    record { shortfall = s .1; expected = s .0; kept = omega arith; surplus = omega arith }
+
+pub closed-small : (state : State) → closeOf state .refusal ≡ 0 → mag (closeOf state .figures .total) < 2 ^ 63 → SmallWords (closeOf state .figures)
+unfolding closingRefusal figuresOf
+closed-small state e k =
+    let r = sym (close-refusal state) ∙ e in
+    let s = sound state (clear ((isUnsound state, 9) ∷ (ltb (state .points) (state .head .count), 20) ∷ []) tt r .0) in
+    let is = close-good state r in
+    rw is (figures-small (state .head .contract) (state .totals) (state .points) (contract-small (state .head) (state .marks) (s .content)) (rw is at k))

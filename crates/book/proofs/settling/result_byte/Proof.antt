@@ -1,0 +1,47 @@
+use mathlib.Core.Path.{_≡_, sym, ap, _∙_}
+use Prim.Native.Nat.{_/_, _%_}
+use native.Mathlib.Omega.{arith}
+use lib.IntN.{ℤ, pos}
+use lib.ListN.{getD}
+use Rattle.numbers.specs.Words.{bytesOf, twosComplement}
+use Rattle.book.proofs.Results.{word-back, words-at}
+-- The word, then its byte.
+use borrow.Author.Needs.{needs}
+use Rattle.book.proofs.settling.result_byte.Statement.{statement}
+use Rattle.book.proofs.settling.result_byte.Tie as tie
+use Rattle.book.proofs.settling.result_byte.Reads as reads
+use Rattle.book.proofs.settling.result_byte.Lts as lts
+use Rattle.numbers.proofs.word_bytes.Reads as word-bytes-reads
+
+-- src/settling.rt:56:37
+mul-word-bytes : tie.Need-mul-word-bytes
+mul-word-bytes c = search needs
+
+-- src/settling.rt:56:37
+array-copy-out-word-bytes : tie.Need-array-copy-out-word-bytes
+array-copy-out-word-bytes c = search needs
+
+-- src/settling.rt:56:17
+word-bytes-requires : tie.Need-word-bytes-requires
+word-bytes-requires c κs = search needs
+
+-- src/settling.rt:57:5
+array-read-result : tie.Need-array-read-result
+array-read-result c = search needs
+
+-- src/settling.rt:52:1
+returns : tie.Need-returns
+returns c =
+    let s = c .before .before in
+    let e = c .word-bytes .ensures ∙ ap (λ (z : ℤ). bytesOf 8 (twosComplement z)) (word-back (getD (s .args .t1) (s .args .i / 8) (pos 0)) (c .before .word-bytes-arg .given)) in
+    ap (λ bytes. getD bytes (s .args .i % 8) 0) e ∙ sym (words-at (s .args .t1) (s .args .i) (omega arith))
+
+pub result-byte-spec : {M : Type 1} → statement M
+result-byte-spec =
+    tie.close
+    (tie.spec
+    mul-word-bytes
+    array-copy-out-word-bytes
+    word-bytes-requires
+    array-read-result
+    returns)
