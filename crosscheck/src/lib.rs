@@ -9,6 +9,7 @@
 pub mod account;
 pub mod book;
 pub mod books;
+pub mod calls;
 pub mod choosing;
 pub mod days;
 pub mod demand3;

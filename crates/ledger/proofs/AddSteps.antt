@@ -11,13 +11,14 @@ use borrow.Author.Tests.{leb-false, eqb-true, not-false, eq-eqb, ne-eqb}
 use Rattle.numbers.specs.Refusals.{firstOf}
 use Rattle.numbers.proofs.Refusals.{Clear, clear, told, passed}
 use Rattle.ledger.specs.Heads.{contentRefusal}
-use Rattle.ledger.specs.Points.{Kind, consumer, generator, unknown, kindOf, isUnknown, sizeOf, isUnfit, hasLarge, lacksDays, results}
+use Rattle.ledger.specs.Points.{Kind, kindOf, isUnknown, sizeOf, isUnfit, hasLarge, lacksDays, results}
 use Rattle.ledger.specs.Operations.{pointRefusal, addingRefusal, placesOf, resultsOf}
 use Rattle.ledger.specs.Steps.{earlyTests, earlyRefusal, foundOf}
 use Rattle.ledger.specs.declared.Head.{Head}
 use Rattle.ledger.specs.declared.State.{State}
 use Rattle.ledger.specs.declared.results.Found.{Found}
 use Rattle.ledger.proofs.Bounds.{takes, opens, result-small}
+use Rattle.ledger.proofs.EarlyRows.{known-length}
 use Rattle.ledger.proofs.Sound.{Sound, sound, adding-sound}
 use Rattle.ledger.proofs.Totals.{total-small}
 
@@ -86,14 +87,9 @@ module _ (state : State) (tag : ℕ) (value : List ℕ) (places : ℕ) where
     pub early-small : hasLarge (kindOf tag) value ≡ false
     early-small = rows .1 .1 .1 .1 .1 .1 .1 .1 .0
 
-    known-long : (kind : Kind) → isUnknown kind ≡ false → 50 ≤ sizeOf kind
-    known-long consumer e = omega arith
-    known-long generator e = omega arith
-    known-long unknown e = absurd (true≢false e)
-
     -- every point has its number
     pub numbered : 22 ≤ length value
-    numbered = omega (arith, early-length, known-long (kindOf tag) early-known)
+    numbered = omega (arith, early-length, known-length (kindOf tag) early-known)
 
     pub next-fits : state .points + 1 < 4294967296
     next-fits = omega (arith, early-room, opens (state .head) (state .marks) (early-sound .content) .most-points)

@@ -37,14 +37,15 @@ module _ (places : ℕ) (rows : List (Bool × ℕ)) where
   pub six-passed : places ≡ 6 → firstOf (placesRow places ∷ rows) ≡ firstOf rows
   six-passed h = simp (eq-eqb places 6 h)
 
+-- every kind of point has a length
+pub known-length : (kind : Kind) → isUnknown kind ≡ false → 50 ≤ sizeOf kind
+known-length consumer e = omega arith
+known-length generator e = omega arith
+known-length unknown e = absurd (let z : _≡_ {A = ℕ} 0 1 = cc in omega arith)
+
 module _ (tag : ℕ) (value : List ℕ) (form : firstOf (formRows tag value) ≡ 0) where
   pub right-length : length value ≡ sizeOf (kindOf tag)
   right-length = eqb-true _ _ (not-false _ (clear (formRows tag value) tt form .1 .0))
-
-  known-length : (kind : Kind) → isUnknown kind ≡ false → 50 ≤ sizeOf kind
-  known-length consumer e = omega arith
-  known-length generator e = omega arith
-  known-length unknown e = absurd (let z : _≡_ {A = ℕ} 0 1 = cc in omega arith)
 
   -- every point has its number
   pub long-enough : 22 ≤ length value

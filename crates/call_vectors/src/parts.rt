@@ -1,0 +1,115 @@
+// The parts of a call, from standard input.
+ghost use mathlib.Core.Path.{_≡_};
+ghost use Prim.Native.Nat.{_+_, _*_, _≤_};
+ghost use lib.ListN.{length};
+ghost use Rattle.numbers.specs.Words.{twosComplement};
+ghost use Rattle.call_vectors.specs.Parts.{lengthOf};
+use ledger::Head;
+use ledger::State;
+use libc::STDIN_FILENO;
+
+// What was read of a part with its length in front.
+pub enum Part {
+    Whole { length: usize },
+    Cut,
+}
+
+// Fills the bytes: whether as many were there.
+pub fn read_bytes(bytes: &mut [u8]) -> bool
+    ensures { λ _. ⌜ length (now (bytes .exit)) ≡ length (now (bytes .entry)) ⌝ }
+{
+    let due = bytes.len();
+    let got = io::read_full(STDIN_FILENO, bytes);
+    due <= got
+}
+
+// A length of two bytes and as many bytes, which go to the front of the room; a part with no room is cut.
+pub fn read_part(room: &mut [u8]) -> Part
+    ensures { λ r. ⌜ lengthOf r ≤ length (now (room .entry)) ⌝ }
+{
+    let mut front = [0u8; 2];
+    if !read_bytes(&mut front) {
+        return Part::Cut;
+    }
+    let length = numbers::big16(front[0], front[1]) as usize;
+    if room.len() < length {
+        return Part::Cut;
+    }
+    if !read_bytes(&mut room[0..length]) {
+        return Part::Cut;
+    }
+    Part::Whole { length }
+}
+
+// Two's complement in two words, the high one first.
+fn signed_of(high: u32, low: u32) -> i64
+    ensures { λ r. ⌜ twosComplement r ≡ high * 4294967296 + low ⌝ }
+{
+    let word = (high as u64) * 4294967296 + (low as u64);
+    if word < 9223372036854775808 {
+        word as i64
+    } else {
+        -1 - ((18446744073709551615 - word) as i64)
+    }
+}
+
+// The signed eight bytes at a place.
+fn signed_at(bytes: &[u8], at: usize) -> i64
+    requires { ⌜ at + 8 ≤ length (now bytes) ⌝ }
+{
+    let high = numbers::word32_at(bytes, at);
+    let low = numbers::word32_at(bytes, at + 4);
+    signed_of(high, low)
+}
+
+// Signed numbers of eight bytes each, as many as there are places.
+pub fn signed_list(bytes: &[u8], places: &mut [i64])
+    requires { ⌜ length (now places) * 8 ≤ length (now bytes) ⌝ }
+    ensures { λ _. ⌜ length (now (places .exit)) ≡ length (now (places .entry)) ⌝ }
+{
+    let mut i: usize = 0;
+    while i < places.len() {
+        places[i] = signed_at(bytes, i * 8);
+        i += 1;
+    }
+}
+
+// The head in a state's bytes; its count has four bytes.
+fn head_of(bytes: &[u8]) -> Head
+    requires { ⌜ length (now bytes) ≡ 123 ⌝ }
+{
+    let year = numbers::word16_at(bytes, 0);
+    let low = numbers::word16_at(bytes, 5);
+    let high = numbers::word16_at(bytes, 7);
+    let extra_high = numbers::word16_at(bytes, 9);
+    let contract = numbers::word32_at(bytes, 11);
+    let count = numbers::word32_at(bytes, 15);
+    Head {
+        year,
+        month: bytes[2],
+        day: bytes[3],
+        slot: bytes[4],
+        losses: [low, high, extra_high],
+        contract,
+        count,
+    }
+}
+
+// The state in a state's bytes, whatever they hold.
+pub fn state_of(bytes: &[u8]) -> State
+    requires { ⌜ length (now bytes) ≡ 123 ⌝ }
+{
+    let head = head_of(bytes);
+    let marks = ledger::heads::marks_of(&bytes[19..49]);
+    let points = numbers::word32_at(bytes, 49);
+    let mut totals = [0i64; 6];
+    signed_list(&bytes[53..101], &mut totals);
+    let last = ledger::points::number_of(&bytes[101..123]);
+    State {
+        head,
+        marks,
+        points,
+        totals,
+        last,
+    }
+}

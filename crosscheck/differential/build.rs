@@ -1,0 +1,8 @@
+//! Links the archive that `rt staticlib tembuyas` writes.
+
+fn main() {
+    let folder = concat!(env!("CARGO_MANIFEST_DIR"), "/../../target/staticlib");
+    println!("cargo:rustc-link-search=native={folder}");
+    println!("cargo:rustc-link-lib=static=tembuyas");
+    println!("cargo:rerun-if-changed={folder}/libtembuyas.a");
+}

@@ -1,0 +1,274 @@
+//! Single calls in the form that the program call_vectors reads, and the text
+//! of their answers. docs/VECTORS.md has both forms byte by byte.
+
+pub mod vectors;
+
+use crate::ledger::{add, close, open, Figures, State};
+use crate::limits::*;
+use crate::refusals::Refusal;
+
+/// Kind byte of an opening.
+pub const OPENING: u8 = 1;
+/// Kind byte of an adding.
+pub const ADDING: u8 = 2;
+/// Kind byte of a closing.
+pub const CLOSING: u8 = 3;
+/// Bytes of a state.
+pub const STATE_LENGTH: usize = 123;
+/// Most bytes of a head, a calendar or a value.
+pub const MOST_BYTES: usize = 6_000;
+/// Most places that an adding may be lent.
+pub const MOST_PLACES: usize = 8;
+
+/// One call with all that it is given.
+#[derive(Clone, Debug, PartialEq, Eq)]
+pub enum Call {
+    /// Opening with a head and a calendar.
+    Opening {
+        /// The head value.
+        head: Vec<u8>,
+        /// The calendar value.
+        calendar: Vec<u8>,
+    },
+    /// Adding with a raw state.
+    Adding {
+        /// The state before the call.
+        state: State,
+        /// The tag.
+        tag: u8,
+        /// What the lent places hold before the call.
+        places: Vec<i64>,
+        /// The value.
+        value: Vec<u8>,
+    },
+    /// Closing with a raw state.
+    Closing {
+        /// The state.
+        state: State,
+    },
+}
+
+impl Call {
+    /// The call in its form.
+    pub fn bytes(&self) -> Vec<u8> {
+        match self {
+            Call::Opening { head, calendar } => {
+                let mut bytes = vec![OPENING];
+                bytes.extend(with_length(head));
+                bytes.extend(with_length(calendar));
+                bytes
+            }
+            Call::Adding {
+                state,
+                tag,
+                places,
+                value,
+            } => {
+                let mut bytes = vec![ADDING];
+                bytes.extend(state_bytes(state));
+                bytes.extend([*tag, places.len() as u8]);
+                bytes.extend(places.iter().flat_map(|place| place.to_be_bytes()));
+                bytes.extend(with_length(value));
+                bytes
+            }
+            Call::Closing { state } => {
+                let mut bytes = vec![CLOSING];
+                bytes.extend(state_bytes(state));
+                bytes
+            }
+        }
+    }
+
+    /// Makes the call: its refusal, and the line of its answer.
+    pub fn answer(&self) -> (Refusal, String) {
+        match self {
+            Call::Opening { head, calendar } => {
+                let (refusal, state) = open(head, calendar);
+                (
+                    refusal,
+                    format!("opening {refusal}{}\n", state_text(&state)),
+                )
+            }
+            Call::Adding {
+                state,
+                tag,
+                places,
+                value,
+            } => {
+                let mut places = places.clone();
+                let (refusal, after) = add(state, *tag, value, &mut places);
+                let (after, places) = (state_text(&after), list_text(&places));
+                (refusal, format!("adding {refusal}{after} places{places}\n"))
+            }
+            Call::Closing { state } => {
+                let (refusal, figures) = close(state);
+                (
+                    refusal,
+                    format!("closing {refusal}{}\n", figures_text(&figures)),
+                )
+            }
+        }
+    }
+}
+
+/// Bytes with their length of two bytes before them.
+fn with_length(bytes: &[u8]) -> Vec<u8> {
+    let mut all = (bytes.len() as u16).to_be_bytes().to_vec();
+    all.extend(bytes);
+    all
+}
+
+/// A state in its form.
+fn state_bytes(state: &State) -> Vec<u8> {
+    let mut bytes = state.year.to_be_bytes().to_vec();
+    bytes.extend([state.month, state.day, state.first_slot]);
+    bytes.extend(state.losses.iter().flat_map(|loss| loss.to_be_bytes()));
+    bytes.extend(state.contract.to_be_bytes());
+    bytes.extend(state.count.to_be_bytes());
+    bytes.extend(state.marks);
+    bytes.extend(state.points.to_be_bytes());
+    bytes.extend(state.totals.iter().flat_map(|total| total.to_be_bytes()));
+    bytes.extend(state.last);
+    bytes
+}
+
+fn list_text(numbers: &[i64]) -> String {
+    numbers.iter().map(|number| format!(" {number}")).collect()
+}
+
+fn hex_text(bytes: &[u8]) -> String {
+    bytes.iter().map(|byte| format!("{byte:02x}")).collect()
+}
+
+fn state_text(state: &State) -> String {
+    let [low, high, extra_high] = state.losses;
+    format!(
+        " year {} month {} day {} slot {} losses {low} {high} {extra_high} contract {} count {} \
+         marks {} points {} totals{} last {}",
+        state.year,
+        state.month,
+        state.day,
+        state.first_slot,
+        state.contract,
+        state.count,
+        hex_text(&state.marks),
+        state.points,
+        list_text(&state.totals),
+        hex_text(&state.last),
+    )
+}
+
+fn figures_text(figures: &Figures) -> String {
+    format!(
+        " total {} settled {} shortfall {} expected {} kept {} surplus {} points {} bid {}",
+        figures.total,
+        figures.settled,
+        figures.shortfall,
+        figures.expected,
+        figures.kept,
+        figures.surplus,
+        figures.points,
+        if figures.bid { "yes" } else { "no" },
+    )
+}
+
+/// Bytes not yet read.
+struct Unread<'a>(&'a [u8]);
+
+impl<'a> Unread<'a> {
+    fn take(&mut self, length: usize) -> Option<&'a [u8]> {
+        let (taken, rest) = self.0.split_at_checked(length)?;
+        self.0 = rest;
+        Some(taken)
+    }
+
+    fn array<const N: usize>(&mut self) -> Option<[u8; N]> {
+        self.take(N)?.try_into().ok()
+    }
+
+    fn u16(&mut self) -> Option<u16> {
+        self.array().map(u16::from_be_bytes)
+    }
+
+    fn u32(&mut self) -> Option<u32> {
+        self.array().map(u32::from_be_bytes)
+    }
+
+    fn i64(&mut self) -> Option<i64> {
+        self.array().map(i64::from_be_bytes)
+    }
+
+    /// Bytes with their length of two bytes before them.
+    fn part(&mut self) -> Option<Vec<u8>> {
+        let length = usize::from(self.u16()?);
+        (length <= MOST_BYTES).then_some(())?;
+        self.take(length).map(<[u8]>::to_vec)
+    }
+
+    fn state(&mut self) -> Option<State> {
+        let year = self.u16()?;
+        let [month, day, first_slot] = self.array()?;
+        let losses = [self.u16()?, self.u16()?, self.u16()?];
+        let (contract, count) = (self.u32()?, self.u32()?);
+        let (marks, points) = (self.array()?, self.u32()?);
+        let mut totals = [0; WINDOW_SLOTS];
+        for total in &mut totals {
+            *total = self.i64()?;
+        }
+        Some(State {
+            year,
+            month,
+            day,
+            first_slot,
+            losses,
+            contract,
+            count,
+            marks,
+            points,
+            totals,
+            last: self.array()?,
+        })
+    }
+
+    fn places(&mut self, count: u8) -> Option<Vec<i64>> {
+        (usize::from(count) <= MOST_PLACES).then_some(())?;
+        (0..count).map(|_| self.i64()).collect()
+    }
+
+    fn call(&mut self) -> Option<Call> {
+        let [kind] = self.array()?;
+        match kind {
+            OPENING => Some(Call::Opening {
+                head: self.part()?,
+                calendar: self.part()?,
+            }),
+            ADDING => {
+                let state = self.state()?;
+                let [tag, count] = self.array()?;
+                Some(Call::Adding {
+                    state,
+                    tag,
+                    places: self.places(count)?,
+                    value: self.part()?,
+                })
+            }
+            CLOSING => Some(Call::Closing {
+                state: self.state()?,
+            }),
+            _ => None,
+        }
+    }
+}
+
+/// The calls that bytes hold, and whether the last one is whole.
+pub fn read_calls(bytes: &[u8]) -> (Vec<Call>, bool) {
+    let mut unread = Unread(bytes);
+    let mut calls = Vec::new();
+    while !unread.0.is_empty() {
+        match unread.call() {
+            Some(call) => calls.push(call),
+            None => return (calls, false),
+        }
+    }
+    (calls, true)
+}
