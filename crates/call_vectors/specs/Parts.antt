@@ -1,8 +1,49 @@
--- The length of a part that was read; 0 where it was cut.
-use Prim.Native.Nat.{ℕ}
+-- What the bytes of a call say: the table 'A state' of docs/VECTORS.md.
+use mathlib.Core.Bool.{cond}
+use mathlib.Core.List.{List, [], _∷_}
+use Prim.Native.Nat.{ℕ, _+_, _-_, _*_}
+use lib.Dec.{ltb}
+use lib.IntN.{ℤ, pos, negsuc}
+use lib.ListN.{getD, take, drop}
+use Rattle.numbers.specs.Lists.{run}
+use Rattle.numbers.specs.Words.{word16, word32}
+use Rattle.ledger.specs.declared.Head.{Head}
+use Rattle.ledger.specs.declared.State.{State}
 use Rattle.call_vectors.specs.declared.parts.Part.{Part}
 use Rattle.call_vectors.specs.declared.parts.Part.the-variants.{Whole, Cut}
 
+-- the length of a part that was read; 0 where it was cut
 abbrev pub lengthOf : Part → ℕ
 lengthOf (Whole n) = n
 lengthOf Cut = 0
+
+-- two's complement: the number that eight bytes stand for
+abbrev pub signedOf : ℕ → ℤ
+signedOf word = cond (ltb word 9223372036854775808) (pos word) (negsuc (18446744073709551615 - word))
+
+abbrev pub signedAt : List ℕ → ℕ → ℤ
+signedAt bytes at = signedOf (word32 bytes at * 4294967296 + word32 bytes (at + 4))
+
+-- the i-th of signed numbers that follow each other
+abbrev pub signedIn : List ℕ → ℕ → ℤ
+signedIn bytes i = signedAt bytes (i * 8)
+
+unfoldable pub headIn : List ℕ → Head
+headIn bytes = record {
+  year = word16 bytes 0;
+  month = getD bytes 2 0;
+  day = getD bytes 3 0;
+  slot = getD bytes 4 0;
+  losses = word16 bytes 5 ∷ word16 bytes 7 ∷ word16 bytes 9 ∷ [];
+  contract = word32 bytes 11;
+  count = word32 bytes 15;
+}
+
+unfoldable pub stateIn : List ℕ → State
+stateIn bytes = record {
+  head = headIn bytes;
+  marks = take 30 (drop 19 bytes);
+  points = word32 bytes 49;
+  totals = run (signedIn (take 48 (drop 53 bytes))) 0 6;
+  last = take 22 (drop 101 bytes);
+}

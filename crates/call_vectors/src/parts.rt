@@ -2,8 +2,8 @@
 ghost use mathlib.Core.Path.{_≡_};
 ghost use Prim.Native.Nat.{_+_, _*_, _≤_};
 ghost use lib.ListN.{length};
-ghost use Rattle.numbers.specs.Words.{twosComplement};
-ghost use Rattle.call_vectors.specs.Parts.{lengthOf};
+ghost use Rattle.numbers.specs.Lists.{run};
+ghost use Rattle.call_vectors.specs.Parts.{lengthOf, signedOf, signedAt, signedIn, headIn, stateIn};
 use ledger::Head;
 use ledger::State;
 use libc::STDIN_FILENO;
@@ -43,7 +43,7 @@ pub fn read_part(room: &mut [u8]) -> Part
 
 // Two's complement in two words, the high one first.
 fn signed_of(high: u32, low: u32) -> i64
-    ensures { λ r. ⌜ twosComplement r ≡ high * 4294967296 + low ⌝ }
+    ensures { λ r. ⌜ r ≡ signedOf (high * 4294967296 + low) ⌝ }
 {
     let word = (high as u64) * 4294967296 + (low as u64);
     if word < 9223372036854775808 {
@@ -56,6 +56,7 @@ fn signed_of(high: u32, low: u32) -> i64
 // The signed eight bytes at a place.
 fn signed_at(bytes: &[u8], at: usize) -> i64
     requires { ⌜ at + 8 ≤ length (now bytes) ⌝ }
+    ensures { λ r. ⌜ r ≡ signedAt (now (bytes .entry)) at ⌝ }
 {
     let high = numbers::word32_at(bytes, at);
     let low = numbers::word32_at(bytes, at + 4);
@@ -65,7 +66,7 @@ fn signed_at(bytes: &[u8], at: usize) -> i64
 // Signed numbers of eight bytes each, as many as there are places.
 pub fn signed_list(bytes: &[u8], places: &mut [i64])
     requires { ⌜ length (now places) * 8 ≤ length (now bytes) ⌝ }
-    ensures { λ _. ⌜ length (now (places .exit)) ≡ length (now (places .entry)) ⌝ }
+    ensures { λ _. ⌜ now (places .exit) ≡ run (signedIn (now (bytes .entry))) 0 (length (now (places .entry))) ⌝ }
 {
     let mut i: usize = 0;
     while i < places.len() {
@@ -77,6 +78,7 @@ pub fn signed_list(bytes: &[u8], places: &mut [i64])
 // The head in a state's bytes; its count has four bytes.
 fn head_of(bytes: &[u8]) -> Head
     requires { ⌜ length (now bytes) ≡ 123 ⌝ }
+    ensures { λ r. ⌜ r ≡ headIn (now (bytes .entry)) ⌝ }
 {
     let year = numbers::word16_at(bytes, 0);
     let low = numbers::word16_at(bytes, 5);
@@ -98,6 +100,7 @@ fn head_of(bytes: &[u8]) -> Head
 // The state in a state's bytes, whatever they hold.
 pub fn state_of(bytes: &[u8]) -> State
     requires { ⌜ length (now bytes) ≡ 123 ⌝ }
+    ensures { λ r. ⌜ r ≡ stateIn (now (bytes .entry)) ⌝ }
 {
     let head = head_of(bytes);
     let marks = ledger::heads::marks_of(&bytes[19..49]);

@@ -7,7 +7,8 @@ use mir.Facts.{toZ-ofZ, toZ-pos}
 use mir.Syntax.{w64}
 use mir.Val.{SFits, toZ, ofZ}
 use borrow.Author.Needs.{needs}
-use Rattle.numbers.specs.Words.{twosComplement}
+use borrow.Author.Tests.{lt-ltb, le-ltb}
+use Rattle.call_vectors.specs.Parts.{signedOf}
 use Rattle.call_vectors.proofs.parts.signed_of.Statement.{statement}
 use Rattle.call_vectors.proofs.parts.signed_of.Tie as tie
 
@@ -24,6 +25,9 @@ fits n h = rw (toZ-pos w64 h, less n) (record { sfits = h })
 
 back : (n : ℕ) → n < 9223372036854775808 → toZ w64 (ofZ w64 (negsuc 0 -ℤ toZ w64 n)) ≡ negsuc n
 back n h = toZ-ofZ (fits n h) ∙ rw (toZ-pos w64 h) (less n)
+
+positive : (n : ℕ) → n < 9223372036854775808 → toZ w64 n ≡ signedOf n
+positive n h = toZ-pos w64 h ∙ rw (lt-ltb n 9223372036854775808 h) refl
 
 mul-word : tie.Need-mul-word
 mul-word c = search needs
@@ -44,10 +48,10 @@ sub-result-2 : tie.Need-sub-result-2
 sub-result-2 c = fits (below (c .before .args .high) (c .before .args .low)) (omega arith)
 
 returns : tie.Need-returns
-returns c = ap twosComplement (toZ-pos w64 (omega arith))
+returns c = positive (c .before .args .high * 4294967296 + c .before .args .low) (c .if1 .taken)
 
 returns-2 : tie.Need-returns-2
-returns-2 c = ap twosComplement (back (below (c .before .args .high) (c .before .args .low)) (omega arith)) ∙ omega arith
+returns-2 c = rw (le-ltb _ _ (c .if1 .left)) (back (below (c .before .args .high) (c .before .args .low)) (omega arith))
 
 pub signed-of-spec : {M : Type 1} → statement M
 signed-of-spec =
