@@ -1,15 +1,15 @@
 -- Lists that a loop makes from the front: one element more, and all of them. Assumes nothing.
-use mathlib.Core.Path.{_≡_, refl, sym, ap, _∙_}
 use mathlib.Core.Bool.{Bool, true, false, cond, _||_, or-assoc}
 use mathlib.Core.List.{List, [], _∷_, _++_, append-nil}
+use mathlib.Core.Path.{_≡_, refl, sym, ap, _∙_}
 use Prim.Native.Nat.{ℕ, zero, suc, _+_, _*_, _<_, _≤_}
-use native.Mathlib.Numerals.{add-one}
 use native.Mathlib.Nat.{le-of-suc-le-suc, not-suc-le-zero, zero-add, add-zero, add-suc, suc-add, suc-mul}
+use native.Mathlib.Numerals.{add-one}
 use native.Mathlib.Omega.{arith}
 use lib.ListN.{length, getD, set, take, drop, drop-of-length-le, length-append, length-take, length-drop}
 use lib.Seq.{paste-suc, take-all}
-use Rattle.numbers.proofs.Refusals.{or-none}
 use Rattle.numbers.specs.Lists.{run, sum, filter, any}
+use Rattle.numbers.proofs.Refusals.{or-none}
 
 -- ---- a list whose first places are stored one after the other
 

@@ -1,20 +1,20 @@
 -- Signed numbers as the machine works with them: read back from bits, tested, cast, divided toward zero, added. Over any width.
 -- Assumes nothing.
-use mathlib.Core.Path.{_≡_, refl, sym, ap, _∙_}
 use mathlib.Core.Bool.{Bool, true, false, cond, true≢false, false≢true}
+use mathlib.Core.Path.{_≡_, refl, sym, ap, _∙_}
 use Prim.Native.Nat.{ℕ, zero, suc, _+_, _-_, _*_, _/_, _%_, _<_, _≤_, _^_, zero-le}
-use native.Mathlib.Nat.{div-add-mod', mod-lt, div-le-self, mul-div-cancel, mul-mod-left, suc-mul, le-refl}
 use native.Mathlib.Decide.{decLt}
+use native.Mathlib.Nat.{div-add-mod', mod-lt, div-le-self, mul-div-cancel, mul-mod-left, suc-mul, le-refl}
 use native.Mathlib.Omega.{arith}
 use lib.Arith.{digits-div, digits-mod}
 use lib.Dec.{T, ltb}
 use lib.IntN.{ℤ, pos, negsuc, negℤ, predℤ, natAbs, subℕ, _+ℤ_, _-ℤ_, -ℤ-one}
 use lib.Signed.{mag, ltZ, quotZ, remZ, mag-rem, nonNeg}
-use borrow.Author.Tests.{ltb-true, le-ltb}
+use mir.Facts.{toZ-ofZ, toZ-pos}
 use mir.Syntax.{Width}
 use mir.Val.{Fits, SFits, hbits, toZ, ofZ}
-use mir.Facts.{toZ-ofZ, toZ-pos}
 use mir.ValLaws.{sfits-le, half-full}
+use borrow.Author.Tests.{ltb-true, le-ltb}
 use Rattle.numbers.specs.Integers.{floorDiv}
 
 -- ---- a number as the machine reads it back from its bits: itself, where it fits
@@ -22,8 +22,9 @@ use Rattle.numbers.specs.Integers.{floorDiv}
 abbrev pub back : Width → ℤ → ℤ
 back w z = toZ w (ofZ w z)
 
-pub read : {w : Width} {y z : ℤ} → y ≡ z → SFits w z → back w y ≡ z
-read {w} e f = ap (back w) e ∙ toZ-ofZ f
+-- a call's result, from what the call promises of it: `told w64 (c .call .ok) (c .call .ensures)`
+pub told : (w : Width) {y z : ℤ} → mag y < 2 ^ hbits w → y ≡ z → back w y ≡ z
+told w h e = toZ-ofZ {w = w} (record { sfits = h }) ∙ e
 
 -- a number that is not negative, cast to the same width without a sign
 pub cast-fits : {w : Width} {y : ℤ} {n : ℕ} → y ≡ pos n → n < 2 ^ hbits w → T (nonNeg y) × Fits w (natAbs y)

@@ -1,6 +1,6 @@
 -- Sums of signed numbers, from a place on. Assumes nothing.
-use mathlib.Core.Path.{_≡_, sym}
 use mathlib.Core.List.{List, [], _∷_}
+use mathlib.Core.Path.{_≡_, sym}
 use Prim.Native.Nat.{ℕ, suc, _+_, _*_, _<_, _≤_}
 use native.Mathlib.Nat.{suc-mul}
 use native.Mathlib.Numerals.{add-one}

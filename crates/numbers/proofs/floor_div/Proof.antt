@@ -1,11 +1,11 @@
 use mathlib.Core.Path.{_≡_}
 use native.Mathlib.Omega.{arith}
 use lib.IntN.{pos}
+use mir.Facts.{toZ-pos}
 use mir.Syntax.{w64}
 use mir.Val.{toZ}
-use mir.Facts.{toZ-pos}
-use Rattle.numbers.proofs.Machine.{quot-fits, below-fits, floor-below, floor-whole}
 use borrow.Author.Needs.{needs}
+use Rattle.numbers.proofs.Machine.{quot-fits, below-fits, floor-below, floor-whole}
 use Rattle.numbers.proofs.floor_div.Statement.{statement}
 use Rattle.numbers.proofs.floor_div.Tie as tie
 

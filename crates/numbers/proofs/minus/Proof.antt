@@ -1,6 +1,6 @@
 use mir.Syntax.{w64}
-use Rattle.numbers.proofs.Machine.{minus-fits, minus-is}
 use borrow.Author.Needs.{needs}
+use Rattle.numbers.proofs.Machine.{minus-fits, minus-is}
 use Rattle.numbers.proofs.minus.Statement.{statement}
 use Rattle.numbers.proofs.minus.Tie as tie
 

@@ -1,7 +1,7 @@
 use mathlib.Core.Path.{refl, sym, ap}
+use borrow.Author.Needs.{needs}
 use Rattle.numbers.specs.Integers.{orZero}
 use Rattle.numbers.proofs.Machine.{is-negative, is-positive}
-use borrow.Author.Needs.{needs}
 use Rattle.numbers.proofs.or_zero.Statement.{statement}
 use Rattle.numbers.proofs.or_zero.Tie as tie
 

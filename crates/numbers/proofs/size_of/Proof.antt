@@ -2,8 +2,8 @@ use mathlib.Core.Path.{sym, ap, _∙_}
 use native.Mathlib.Numerals.{add-one}
 use native.Mathlib.Omega.{arith}
 use lib.IntN.{natAbs}
-use Rattle.numbers.proofs.Machine.{mag-small, is-negative, is-positive}
 use borrow.Author.Needs.{needs}
+use Rattle.numbers.proofs.Machine.{mag-small, is-negative, is-positive}
 use Rattle.numbers.proofs.size_of.Statement.{statement}
 use Rattle.numbers.proofs.size_of.Tie as tie
 

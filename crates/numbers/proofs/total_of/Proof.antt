@@ -1,15 +1,15 @@
-use mir.Facts.{toZ-ofZ}
-use Rattle.numbers.proofs.Machine.{back, sum-abs}
-use Rattle.numbers.proofs.Sums.{sumℤ-next, sumℤ-end}
-use mir.Syntax.{w64}
-use mir.Val.{toZ}
+-- The invariant: the total so far and the numbers from place i on are the whole sum, and the total is small enough for one more.
+use mathlib.Core.Path.{_≡_, refl, sym, ap, _∙_}
 use Prim.Native.Nat.{_≤_, _+_, _-_, _*_}
-use mathlib.Core.Path.{_≡_, sym, ap, _∙_}
 use native.Mathlib.Omega.{arith}
-use borrow.Author.Needs.{needs, sfits-of}
 use lib.IntN.{ℤ, pos, natAbs, _+ℤ_, +ℤ-idl}
 use lib.ListN.{length, getD, drop}
+use mir.Syntax.{w64}
+use mir.Val.{toZ}
+use borrow.Author.Needs.{needs}
 use Rattle.numbers.specs.Integers.{sumℤ}
+use Rattle.numbers.proofs.Machine.{back, told, sum-abs}
+use Rattle.numbers.proofs.Sums.{sumℤ-next, sumℤ-end}
 use Rattle.numbers.proofs.total_of.Statement.{statement}
 use Rattle.numbers.proofs.total_of.Tie as tie
 
@@ -32,7 +32,7 @@ array-copy-out-add-bounded c = search needs
 add-bounded-requires : tie.Need-add-bounded-requires Inv-loop μ-loop
 add-bounded-requires c κs =
     let l = c .before .before in
-    rw (toZ-ofZ (sfits-of (c .add-bounded-arg .given))) (omega (arith, l .before .pre (l .loop .i)))
+    rw (told w64 (c .add-bounded-arg .given) refl) (omega (arith, l .before .pre (l .loop .i)))
 
 add-i : tie.Need-add-i Inv-loop μ-loop
 add-i c = search needs
@@ -47,13 +47,10 @@ loop-again c =
     let i = l .loop .i in
     let t = toZ w64 (l .loop .total) in
     let z = getD zs i (pos 0) in
-    let e : back w64 (c .add-bounded .result) ≡ t +ℤ z =
-    toZ-ofZ (sfits-of (c .add-bounded .ok)) ∙ c .add-bounded .ensures ∙ ap (λ (y : ℤ). t +ℤ y) (toZ-ofZ (sfits-of (c .before .add-bounded-arg .given))) in (
-      omega arith,
-      l .loop .inv .1,
-      rw e (omega (arith, sum-abs t z, l .before .pre i)),
-      l .loop .inv .3 ∙ sumℤ-next zs i t (omega arith) ∙ ap (λ (y : ℤ). y +ℤ sumℤ (drop (i + 1) zs)) (sym e),
-    )
+    let x : back w64 z ≡ z = told w64 (c .before .add-bounded-arg .given) refl in
+    let e : back w64 (c .add-bounded .result) ≡ t +ℤ z = told w64 (c .add-bounded .ok) (c .add-bounded .ensures ∙ ap (λ (y : ℤ). t +ℤ y) x) in
+    let s : sumℤ zs ≡ t +ℤ z +ℤ sumℤ (drop (i + 1) zs) = l .loop .inv .3 ∙ sumℤ-next zs i t (omega arith) in
+    (omega arith, l .loop .inv .1, rw e (omega (arith, sum-abs t z, l .before .pre i)), rw e s)
 
 returns : tie.Need-returns Inv-loop μ-loop
 returns c = let l = c .before in sym (l .loop .inv .3 ∙ sumℤ-end (l .before .args .t1) (l .loop .i) (toZ w64 (l .loop .total)) (omega arith))

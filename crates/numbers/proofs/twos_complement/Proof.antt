@@ -1,7 +1,7 @@
 use mathlib.Core.Path.{sym, ap}
+use borrow.Author.Needs.{needs}
 use Rattle.numbers.specs.Words.{twosComplement}
 use Rattle.numbers.proofs.Machine.{is-negative, is-positive}
-use borrow.Author.Needs.{needs}
 use Rattle.numbers.proofs.twos_complement.Statement.{statement}
 use Rattle.numbers.proofs.twos_complement.Tie as tie
 

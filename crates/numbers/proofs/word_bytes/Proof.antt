@@ -1,6 +1,6 @@
 use mir.Facts.{toZ-ofZ}
-use Rattle.numbers.specs.Words.{bytesOf}
 use borrow.Author.Needs.{needs}
+use Rattle.numbers.specs.Words.{bytesOf}
 use Rattle.numbers.proofs.word_bytes.Statement.{statement}
 use Rattle.numbers.proofs.word_bytes.Tie as tie
 
