@@ -3,43 +3,36 @@ use mathlib.Core.Path.{_≡_, refl}
 use mathlib.Core.Bool.{Bool, true, false, cond, _&&_, _||_, and-eq-true-iff, and-false}
 use mathlib.Core.List.{List, [], _∷_}
 use mathlib.Core.Logic.{inl, inr, ⊎-elim}
-use Prim.Native.Nat.{ℕ, _+_, _-_, _≤_, _<_, _%_}
+use Prim.Native.Nat.{ℕ, _+_, _-_, _≤_, _%_}
+use native.Mathlib.Nat.{sub-add-cancel}
 use native.Mathlib.Omega.{arith}
-use lib.Dec.{leb, ltb, eqb, T, leb→le, eqb→eq}
-use lib.ListN.{getD, replicate, getD-replicate}
+use lib.Dec.{leb, ltb, eqb, leb→le, eqb→eq}
+use lib.ListN.{getD, take}
 use mir.Val.{hasKey}
 use mir.Facts.{or-yes}
 use types.Run.{OneOf, hit}
 use borrow.Author.Tests.{leb-true, eqb-true, ne-eqb}
-use Rattle.numbers.specs.Lists.{run, sum}
+use Rattle.numbers.specs.Lists.{sum}
 use Rattle.calendar.specs.Dates.{isLeap, monthDays, daysIn, commonDaysBefore, isDate, dayCount}
-use Rattle.numbers.proofs.Filling.{run-from}
+use Rattle.numbers.proofs.Tables.{every-at}
 
 -- ---- months
-
--- a test that antt computes at each of n numbers from i on
-every : (test : ℕ → Bool) (i n : ℕ) → run test i n ≡ replicate n true → (k : ℕ) → i ≤ k → k < i + n → T (test k)
-every test i n e k h l =
-    let b : k - i < n = omega arith in
-    let q : i + (k - i) ≡ k = omega arith in
-    rw (← q, ← run-from test i n (k - i) true b, e, getD-replicate n (k - i) true true b) tt
 
 module _ (month : ℕ) (h : 1 ≤ month) (l : month ≤ 12) where
   -- a common year's days up to the end of a month
   pub month-end : commonDaysBefore month + getD monthDays (month - 1) 0 ≤ 365
-  unfolding sum run
-  month-end = leb→le _ _ (every (λ m. leb (commonDaysBefore m + getD monthDays (m - 1) 0) 365) 1 12 refl month h (omega arith))
+  unfolding sum
+  month-end = leb→le _ _ (every-at (λ k days. leb (sum (take k monthDays) + days) 365) monthDays tt (month - 1) (omega arith))
 
   -- any other than February and those of thirty days
   pub thirty-one : (year : ℕ) → (month ≡ 2 → ⊥) → (OneOf (4 ∷ 6 ∷ 9 ∷ 11 ∷ []) month → ⊥) → daysIn year month ≡ 31
-  unfolding run
   thirty-one year february thirty =
       let days = getD monthDays (month - 1) 0 in
       let shorter : List ℕ = 2 ∷ 4 ∷ 6 ∷ 9 ∷ 11 ∷ [] in
-      let t = every (λ m. eqb (getD monthDays (m - 1) 0) 31 || hasKey shorter m) 1 12 refl month h (omega arith) in
+      let t = every-at (λ k days. eqb days 31 || hasKey shorter (k + 1)) monthDays tt (month - 1) (omega arith) in
       ⊎-elim (λ e. simp (eqb→eq days 31 e, ne-eqb month 2 february, and-false))
-      (λ k. absurd (⊎-elim february thirty (hit shorter month k)))
-      (or-yes (eqb days 31) (hasKey shorter month) t)
+      (λ k. absurd (⊎-elim february thirty (hit shorter month (rw (sub-add-cancel h) at k))))
+      (or-yes (eqb days 31) (hasKey shorter (month - 1 + 1)) t)
 
 pub thirty : (year month : ℕ) → OneOf (4 ∷ 6 ∷ 9 ∷ 11 ∷ []) month → daysIn year month ≡ 30
 thirty year month (inl e) = rw (e, and-false)

@@ -6,19 +6,19 @@ ghost use Rattle.numbers.specs.Lists.{run, any};
 ghost use Rattle.calendar.specs.Dates.{isLeap, daysIn, commonDaysBefore, daysBefore, isDate, dayCount, isWeekend};
 ghost use Rattle.calendar.specs.Eligible.{isMark, isEligible};
 
-// The days before each month of a common year, by the table that document 01 asks for.
+// The days before each month of a common year: the fixed table of document 01, 'Days'.
 const DAYS_BEFORE: [u32; 12] = [0, 31, 59, 90, 120, 151, 181, 212, 243, 273, 304, 334];
 
-// The calendar's marks: none,
+// A day with no mark.
 const NO_MARK: u8 = 0;
 
-// a national holiday,
+// A national holiday.
 const NATIONAL_HOLIDAY: u8 = 1;
 
-// an earlier dispatch by the grid operator,
+// An earlier dispatch by the grid operator.
 const EARLIER_DISPATCH: u8 = 2;
 
-// an economic dispatch that is excluded on application.
+// An economic dispatch, excluded on application.
 const ECONOMIC_DISPATCH: u8 = 3;
 
 fn common_days_before(month: u8) -> u32
