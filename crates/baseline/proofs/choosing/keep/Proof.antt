@@ -3,7 +3,7 @@ use mathlib.Core.Path.{_≡_, refl, sym, ap, _∙_}
 use mathlib.Core.Bool.{Bool, not}
 use mathlib.Core.List.{List, [], _∷_, map}
 use mathlib.Core.Logic.{⊎-elim}
-use Prim.Native.Nat.{ℕ, _≤_, _-_, _*_}
+use Prim.Native.Nat.{ℕ, _≤_, _<_, _-_, _*_}
 use native.Mathlib.Omega.{arith}
 use lib.Dec.{ltb}
 use lib.ListN.{length, getD, take, length-set, length-append}
@@ -88,7 +88,8 @@ loop-again c =
     let held = filter test (take (l .i) (s .args .t1)) in
     ⊎-elim
     (λ w.
-    let more = keep-yes test (s .args .t1) (l .i) (omega arith) (simp (le-ltb _ _ (w .0 .taken))) in (
+    let high : s .args .all ≤ ofDay sums d * 20 = omega (arith, w .0 .taken) in
+    let more = keep-yes test (s .args .t1) (l .i) (omega arith) (simp (le-ltb _ _ high)) in (
       omega arith,
       omega arith,
       ap length (w .1) ∙ length-set (l .kept) _ _ ∙ l .inv .2,
@@ -97,7 +98,8 @@ loop-again c =
       w .3 ∙ rw (l .inv .5, more) (sym (sum-days (ofDay sums) held d)),
     ))
     (λ w.
-    let same = keep-no test (s .args .t1) (l .i) (omega arith) (simp (lt-ltb _ _ (w .0 .left))) in
+    let low : ofDay sums d * 20 < s .args .all = omega (arith, w .0 .left) in
+    let same = keep-no test (s .args .t1) (l .i) (omega arith) (simp (lt-ltb _ _ low)) in
     (omega arith, omega arith, ap length (w .1) ∙ l .inv .2, rw same (w .2 ∙ l .inv .3), rw (same, w .1, w .2) (l .inv .4), rw same (w .3 ∙ l .inv .5)))
     (c .if1 .came)
 

@@ -62,8 +62,8 @@ loop-again c =
     let r = rising-at (l .i) (omega arith) (s .pre .1) in
     let sum = ofDay (s .args .sums .now) in
     ⊎-elim
-    (λ w. (omega arith, omega arith, omega arith, l .inv .3 ∙ lower sum (l .low) (s .args .t1) (l .i) (omega arith) (w .0 .taken) ∙ rw (w .1)))
-    (λ w. (omega arith, omega arith, omega arith, l .inv .3 ∙ not-lower sum (l .low) (s .args .t1) (l .i) (omega arith) (w .0 .left) ∙ rw (w .1)))
+    (λ w. (omega arith, omega arith, omega arith, l .inv .3 ∙ lower sum (l .low) (s .args .t1) (l .i) (omega arith) (omega (arith, w .0 .taken)) ∙ rw (w .1)))
+    (λ w. (omega arith, omega arith, omega arith, l .inv .3 ∙ not-lower sum (l .low) (s .args .t1) (l .i) (omega arith) (omega (arith, w .0 .left)) ∙ rw (w .1)))
     (c .if1 .came)
 
 returns : tie.Need-returns Inv-loop μ-loop

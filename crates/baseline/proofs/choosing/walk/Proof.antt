@@ -81,14 +81,14 @@ walk-less c = omega arith
 walk-again : tie.Need-walk-again Inv-loop μ-loop Inv-walk μ-walk
 walk-again c =
     let l = c .before .before .before .before .loop in
-    let left = went-on (l .inv .2) (omega arith) (c .before .before .keep .ensures) (c .before .if3 .left) in
+    let left = went-on (l .inv .2) (omega arith) (c .before .before .keep .ensures) (λ five. omega (arith, c .before .if3 .left)) in
     (omega arith, omega arith, left)
 
 returns : tie.Need-returns Inv-loop μ-loop Inv-walk μ-walk
 returns c = ran-out (c .before .before .loop .inv .2) (omega arith) (omega arith)
 
 returns-2 : tie.Need-returns-2 Inv-loop μ-loop Inv-walk μ-walk
-returns-2 c = stopped (c .before .before .before .loop .inv .2) (omega arith) (c .before .keep .ensures) (c .if3 .taken)
+returns-2 c = stopped (c .before .before .before .loop .inv .2) (omega arith) (c .before .keep .ensures) (omega (arith, c .if3 .taken))
 
 pub walk-spec : {M : Type 1} → statement M
 walk-spec =

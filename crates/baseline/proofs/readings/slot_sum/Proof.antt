@@ -11,25 +11,25 @@ array-read-reading-of : tie.Need-array-read-reading-of
 array-read-reading-of c = search needs
 
 reading-of-requires : tie.Need-reading-of-requires
-reading-of-requires c κs = let s = c .before in (s .pre .0, s .pre .2 0, s .pre .1)
+reading-of-requires c κs = let s = c .before in (s .pre .0, s .pre .2 _, s .pre .1)
 
 array-read-reading-of-2 : tie.Need-array-read-reading-of-2
 array-read-reading-of-2 c = search needs
 
 reading-of-requires-2 : tie.Need-reading-of-requires-2
-reading-of-requires-2 c κs = let s = c .before .before in (s .pre .0, s .pre .2 1, s .pre .1)
+reading-of-requires-2 c κs = let s = c .before .before in (s .pre .0, s .pre .2 _, s .pre .1)
 
 array-read-reading-of-3 : tie.Need-array-read-reading-of-3
 array-read-reading-of-3 c = search needs
 
 reading-of-requires-3 : tie.Need-reading-of-requires-3
-reading-of-requires-3 c κs = let s = c .before .before .before in (s .pre .0, s .pre .2 2, s .pre .1)
+reading-of-requires-3 c κs = let s = c .before .before .before in (s .pre .0, s .pre .2 _, s .pre .1)
 
 array-read-reading-of-4 : tie.Need-array-read-reading-of-4
 array-read-reading-of-4 c = search needs
 
 reading-of-requires-4 : tie.Need-reading-of-requires-4
-reading-of-requires-4 c κs = let s = c .before .before .before .before in (s .pre .0, s .pre .2 3, s .pre .1)
+reading-of-requires-4 c κs = let s = c .before .before .before .before in (s .pre .0, s .pre .2 _, s .pre .1)
 
 sum4-requires : tie.Need-sum4-requires
 sum4-requires c κs = search needs
