@@ -9,7 +9,7 @@ use lib.Dec.{T, eqb}
 use lib.ListN.{length}
 use Rattle.numbers.specs.Words.{word16}
 use Rattle.numbers.proofs.Refusals.{Clear, numbered, clear}
-use Rattle.ledger.specs.Points.{Kind, consumer, generator, unknown, kindOf, isUnknown, sizeOf}
+use Rattle.ledger.specs.Points.{Kind, consumer, generator, unknown, kindOf, sizeOf}
 use Rattle.book.specs.Fields.{tagAt, isTag, isPoint, lengthDue}
 use Rattle.book.specs.Headers.{headerTests, headerRefusal}
 use Rattle.book.specs.declared.Due.{Due}
@@ -21,11 +21,6 @@ pub kind-small : (kind : Kind) → sizeOf kind ≤ 5975
 kind-small consumer = omega arith
 kind-small generator = omega arith
 kind-small unknown = omega arith
-
-pub kind-long : (kind : Kind) → isUnknown kind ≡ false → 50 ≤ sizeOf kind
-kind-long consumer e = omega arith
-kind-long generator e = omega arith
-kind-long unknown e = let z : _≡_ {A = ℕ} 0 1 = cc in absurd (omega arith)
 
 pub length-small : (due : Due) (tag : ℕ) → lengthDue due tag ≤ 5975
 length-small Head tag = omega arith

@@ -67,35 +67,21 @@ words-at (word ∷ words) i h = go (ltb i 8) refl (words-at words (i - 8))
 
 -- ---- the figures of an accepted closing fit their words
 
-contract-row : (n : ℕ) → not (eqb n 0 || leb 1_000 n && leb n 10_000_000) ≡ false → n ≤ 10_000_000
-contract-row n e = go (eqb n 0) (leb 1_000 n) (leb n 10_000_000) refl refl e
-  where
-    go : (a b c : Bool) → eqb n 0 ≡ a → leb n 10_000_000 ≡ c → not (a || b && c) ≡ false → n ≤ 10_000_000
-    go true b c p q e = omega (arith, eqb-true n 0 p)
-    go false true true p q e = leb-true n 10_000_000 q
-    go false true false p q e = let z : _≡_ {A = ℕ} 0 1 = cc in absurd (omega arith)
-    go false false c p q e = let z : _≡_ {A = ℕ} 0 1 = cc in absurd (omega arith)
-
-contract-small : (head : Head) (marks : List ℕ) → contentRefusal head marks ≡ 0 → head .contract ≤ 10_000_000
-unfolding contentRefusal
-contract-small head marks e = contract-row (head .contract) (clear (contentTests head marks) tt e .1 .1 .1 .1 .0)
-
-settled-small : (contract : ℕ) (total : ℤ) → contract ≤ 10_000_000 → mag total < 2 ^ 63
+settled-small : (contract : ℕ) (total : ℤ) → contract < 2 ^ 32 → mag total < 2 ^ 63
     → (expectedOf (settledOf total) < 2 ^ 63) × (shortfallOf contract (settledOf total) < 2 ^ 63)
 settled-small contract (pos n) h k = (omega arith, omega (arith, shortfall-above contract (pos (n / 3_000)) (le-ltb (n / 3_000) 0 (omega arith))))
 settled-small contract (negsuc n) h k = (omega arith, omega (arith, shortfall-below contract (negsuc (n / 3_000)) refl))
 
-pub figures-small : (contract : ℕ) (totals : List ℤ) (points : ℕ) → contract ≤ 10_000_000 → mag (sumℤ totals) < 2 ^ 63
+pub figures-small : (contract : ℕ) (totals : List ℤ) (points : ℕ) → contract < 2 ^ 32 → mag (sumℤ totals) < 2 ^ 63
     → SmallWords (figuresOf contract totals points)
 unfolding figuresOf
 figures-small contract totals points h k =
     let s = settled-small contract (sumℤ totals) h k in
     record { shortfall = s .1; expected = s .0; kept = omega arith; surplus = omega arith }
 
-pub closed-small : (state : State) → closeOf state .refusal ≡ 0 → mag (closeOf state .figures .total) < 2 ^ 63 → SmallWords (closeOf state .figures)
-unfolding closingRefusal figuresOf
-closed-small state e k =
-    let r = sym (close-refusal state) ∙ e in
-    let s = sound state (clear ((isUnsound state, 9) ∷ (ltb (state .points) (state .head .count), 20) ∷ []) tt r .0) in
-    let is = close-good state r in
-    rw is (figures-small (state .head .contract) (state .totals) (state .points) (contract-small (state .head) (state .marks) (s .content)) (rw is at k))
+pub closed-small : (state : State) → closeOf state .refusal ≡ 0 → state .head .contract < 2 ^ 32 → mag (closeOf state .figures .total) < 2 ^ 63
+    → SmallWords (closeOf state .figures)
+unfolding figuresOf
+closed-small state e contract total =
+    let is = close-good state (sym (close-refusal state) ∙ e) in
+    rw is (figures-small (state .head .contract) (state .totals) (state .points) contract (rw is at total))

@@ -10,38 +10,29 @@ use lib.ListN.{length, drop}
 use Rattle.numbers.specs.Refusals.{firstOf}
 use Rattle.numbers.specs.PointNumbers.{isNumber}
 use Rattle.numbers.proofs.Refusals.{clear, told, passed}
-use Rattle.ledger.specs.Points.{kindOf, isUnknown, sizeOf, numberOf, isUnfit, hasLarge}
+use Rattle.ledger.specs.Points.{kindOf, sizeOf, numberOf}
+use Rattle.ledger.proofs.EarlyRows.{formRows, valueRows}
 use Rattle.book.specs.Fields.{written}
 use Rattle.book.specs.Writing.{atFront, pointWritingTests, pointWritingRefusal, pointWritingOut}
 use Rattle.book.specs.WritingRows.{writingRows, writingTold}
-use Rattle.book.proofs.Headers.{kind-small, kind-long}
+use Rattle.book.proofs.Headers.{kind-small}
 
 module _ (tag : ℕ) (value : List ℕ) where
   -- ---- the rows
 
-  abbrev form : List (Bool × ℕ)
-  form = (isUnknown (kindOf tag), 11) ∷ (not (eqb (length value) (sizeOf (kindOf tag))), 12) ∷ []
-
-  pub form-told : (firstOf form ≡ 0 → ⊥) → writingTold tag value ≡ firstOf form
+  pub form-told : (firstOf (formRows tag value) ≡ 0 → ⊥) → writingTold tag value ≡ firstOf (formRows tag value)
   unfolding writingTold
-  form-told n = told form (drop 2 (writingRows tag value)) n
+  form-told n = told (formRows tag value) (drop 2 (writingRows tag value)) n
 
-  module _ (e : firstOf form ≡ 0) where
-    pub form-size : length value ≡ sizeOf (kindOf tag)
-    form-size = eqb-true _ _ (not-false _ (clear form tt e .1 .0))
-
-    pub form-long : 50 ≤ length value
-    form-long = omega (arith, form-size, kind-long (kindOf tag) (clear form tt e .0))
-
+  module _ (e : firstOf (formRows tag value) ≡ 0) where
     form-passed : writingTold tag value ≡ firstOf (drop 2 (writingRows tag value))
     unfolding writingTold
-    form-passed = passed form (drop 2 (writingRows tag value)) tt e
+    form-passed = passed (formRows tag value) (drop 2 (writingRows tag value)) tt e
 
     pub number-told : isNumber (numberOf value) ≡ false → writingTold tag value ≡ 14
     number-told n = form-passed ∙ simp n
 
-    pub number-passed : isNumber (numberOf value) ≡ true
-        → writingTold tag value ≡ firstOf ((isUnfit (kindOf tag) value, 16) ∷ (hasLarge (kindOf tag) value, 17) ∷ [])
+    pub number-passed : isNumber (numberOf value) ≡ true → writingTold tag value ≡ firstOf (valueRows tag value)
     number-passed n = form-passed ∙ simp n
 
   -- ---- the answer and the lent bytes, in each case

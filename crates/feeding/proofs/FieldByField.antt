@@ -11,12 +11,12 @@ use lib.ListN.{length, take, drop, length-take, length-drop}
 use lib.Seq.{drop-drop, take-take}
 use mir.Facts.{and-yes}
 use Rattle.ledger.specs.Points.{numberOf}
-use Rattle.numbers.proofs.Refusals.{clear}
-use Rattle.ledger.specs.Heads.{headOf, contentTests, openingRefusal}
+use Rattle.ledger.specs.Heads.{headOf, openingRefusal}
 use Rattle.ledger.specs.States.{noState, opened, taken}
 use Rattle.ledger.specs.Operations.{openOf, addOf, resultsOf}
 use Rattle.ledger.specs.declared.State.{State}
-use Rattle.ledger.proofs.Sound.{open-refusal, open-good, add-refusal, add-good}
+use Rattle.ledger.proofs.Sound.{open-refusal, open-good, add-refusal, add-good, opening-content}
+use Rattle.ledger.proofs.Bounds.{opens}
 use Rattle.book.specs.Fields.{tagAt, lengthDue, fieldOf, valueIn, behind}
 use Rattle.book.specs.Headers.{headerTests, headerRefusal}
 use Rattle.book.specs.Reading.{readPoints, readBook}
@@ -174,10 +174,6 @@ points-fed (suc k) (suc (suc n)) state p left h c = rw (point-due state p (omega
 
 -- ---- the whole book
 
-and-true-right : (a b : Bool) → a && b ≡ true → b ≡ true
-and-true-right true b e = e
-and-true-right false b e = let z : _≡_ {A = ℕ} 0 1 = cc in absurd (omega arith)
-
 -- an accepted opening gives a state with no points and a count that is not too large
 module _ (head calendar : List ℕ) (e : openOf head calendar .refusal ≡ 0) where
   accepted : openingRefusal head calendar ≡ 0
@@ -187,11 +183,7 @@ module _ (head calendar : List ℕ) (e : openOf head calendar .refusal ≡ 0) wh
   opened-state = ap (λ a. a .state) (open-good head calendar accepted)
 
   count-small : headOf head .count ≤ 10_000
-  unfolding openingRefusal
-  count-small =
-      let c = clear ((not (eqb (length head) 17 && eqb (length calendar) 30), 1) ∷ contentTests (headOf head) calendar) tt accepted in
-      let n = headOf head .count in
-      leb-true n 10_000 (and-true-right (leb 1 n) (leb n 10_000) (not-false _ (c .1 .1 .1 .1 .1 .1 .0)))
+  count-small = opens (headOf head) calendar (opening-content head calendar accepted) .most-points
 
 pub field-by-field : FieldByField
 field-by-field book zero h = absurd (omega arith)

@@ -1,6 +1,7 @@
 -- No room, a refused reading, or the figures.
 use mathlib.Core.Path.{_≡_, sym, ap, _∙_}
 use Prim.Native.Nat.{_<_, _^_}
+use native.Mathlib.Omega.{arith}
 use lib.Signed.{mag}
 use Rattle.ledger.specs.Operations.{closeOf}
 use Rattle.book.specs.Settling.{wordsOf}
@@ -42,8 +43,9 @@ words-of-requires c κs =
     let z = sym (ap (λ y. y .refusal) a) ∙ c .before .before .before .if2 .left in
     let k = c .before .close .ensures in
     let accepted : closeOf (r .read .result .state) .refusal ≡ 0 = rw a (closing-accepted (s .args .book .now) (s .args .result .now) (r .before .if1 .left) z) in
-    let small : mag (c .before .close .result .figures .total) < 2 ^ 63 = search needs in
-    rw k (closed-small (r .read .result .state) accepted (rw k at small))
+    let contract : r .read .result .state .head .contract < 2 ^ 32 = omega (arith, r .read .ok) in
+    let total : mag (c .before .close .result .figures .total) < 2 ^ 63 = search needs in
+    rw k (closed-small (r .read .result .state) accepted contract (rw k at total))
 
 -- src/settling.rt:162:5
 put-words-requires : tie.Need-put-words-requires

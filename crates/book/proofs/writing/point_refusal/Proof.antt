@@ -3,7 +3,8 @@ use mathlib.Core.Path.{_≡_, sym, ap, _∙_}
 use mathlib.Core.Bool.{not}
 use native.Mathlib.Omega.{arith}
 use borrow.Author.Tests.{not-true, not-false}
-use Rattle.book.proofs.WritingRows.{form-told, form-size, form-long, number-told, number-passed}
+use Rattle.ledger.proofs.EarlyRows.{right-length, long-enough}
+use Rattle.book.proofs.WritingRows.{form-told, number-told, number-passed}
 use borrow.Author.Needs.{needs}
 use Rattle.book.proofs.writing.point_refusal.Statement.{statement}
 use Rattle.book.proofs.writing.point_refusal.Tie as tie
@@ -34,7 +35,7 @@ part-is-number-end : tie.Need-part-is-number-end
 part-is-number-end c =
     let s = c .before .before .before in
     let e = sym (c .before .form-refusal .ensures) ∙ c .if1 .left in
-    omega (arith, form-long (s .args .tag) (s .args .value .now) e)
+    omega (arith, long-enough (s .args .tag) (s .args .value .now) e)
 
 -- src/writing.rt:51:9
 is-number-requires : tie.Need-is-number-requires
@@ -53,7 +54,7 @@ value-refusal-requires : tie.Need-value-refusal-requires
 value-refusal-requires c κs =
     let f = c .before .before .before in
     let s = f .before .before .before in
-    form-size (s .args .tag) (s .args .value .now) (sym (f .before .form-refusal .ensures) ∙ f .if1 .left)
+    right-length (s .args .tag) (s .args .value .now) (sym (f .before .form-refusal .ensures) ∙ f .if1 .left)
 
 -- src/writing.rt:44:1
 returns-3 : tie.Need-returns-3
