@@ -1,0 +1,40 @@
+// Addings of a high-voltage consumer: C, H to K and use 1,200.
+use crate::text;
+use crate::values;
+use ledger::State;
+
+// The refusal of an adding, or the six places where there is none.
+fn add(state: State, value: &[u8]) {
+    let mut places = [0i64; 6];
+    let added = ledger::add(state, ledger::points::CONSUMER, value, &mut places);
+    let refusal = added.refusal;
+    if refusal == ledger::refusals::ACCEPTED {
+        text::results(&places);
+    } else {
+        text::refusal(refusal);
+    }
+}
+
+// A line for a consumer on days that all have the mark.
+fn line(mark: u8, earlier: u32, used: u32, paper: &[u8]) {
+    let state = values::opened(mark);
+    let mut value = [0u8; 5975];
+    values::put_consumer(&mut value, earlier, used);
+    add(state, &value);
+    text::paper(paper);
+}
+
+pub fn examples() {
+    text::put(b"adding on thirty marks of 1:");
+    line(1, 1200, 240, b"18");
+    text::put(b"adding use 240:");
+    line(0, 1200, 240, b"1000 in each");
+    text::put(b"adding use 241:");
+    line(0, 1200, 241, b"998 in each");
+    text::put(b"adding use 1200:");
+    line(0, 1200, 1200, b"0 in each");
+    text::put(b"adding use 1201:");
+    line(0, 1200, 1201, b"-2 in each");
+    text::put(b"adding use 240, earlier readings 0:");
+    line(0, 0, 240, b"-250 in each");
+}

@@ -1,0 +1,39 @@
+// The text of an example's line.
+use libc::STDOUT_FILENO;
+
+pub fn put(word: &[u8]) {
+    io::write_all(STDOUT_FILENO, word);
+}
+
+pub fn number(value: u64) {
+    io::print_decimal(STDOUT_FILENO, value);
+}
+
+pub fn signed(value: i64) {
+    if value < 0 {
+        put(b"-");
+    }
+    number(numbers::size_of(value));
+}
+
+// 0 is accepted.
+pub fn refusal(value: u32) {
+    put(b" refusal ");
+    number(value as u64);
+}
+
+pub fn results(list: &[i64]) {
+    let mut i: usize = 0;
+    while i < list.len() {
+        put(b" ");
+        signed(list[i]);
+        i += 1;
+    }
+}
+
+// What the paper says ends the line.
+pub fn paper(value: &[u8]) {
+    put(b" (paper ");
+    put(value);
+    put(b")\n");
+}

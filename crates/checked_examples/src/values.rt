@@ -1,0 +1,101 @@
+// The values that the examples hand on (document 01, 'The test book').
+ghost use mathlib.Core.Path.{_≡_};
+ghost use Prim.Native.Nat.{_+_, _*_, _≤_, _<_};
+ghost use lib.ListN.{length};
+use ledger::State;
+
+// A head of the year 2024: losses 700, 400 and 200, contract 1,000 kW.
+pub fn head(month: u8, day: u8, slot: u8, count: u16) -> [u8; 17]
+    ensures { λ r. ⌜ length r ≡ 17 ⌝ }
+{
+    let points = numbers::length_bytes(count);
+    [
+        7,
+        232,
+        month,
+        day,
+        slot,
+        2,
+        188,
+        1,
+        144,
+        0,
+        200,
+        0,
+        0,
+        3,
+        232,
+        points[0],
+        points[1],
+    ]
+}
+
+// The state of a test on 2024-08-07, s 26, with one point due and the same mark on all thirty days.
+pub fn opened(mark: u8) -> State {
+    let head = head(8, 7, 26, 1);
+    let calendar = [mark; 30];
+    let opened = ledger::open(&head, &calendar);
+    let state = opened.state;
+    state
+}
+
+// The point number 1111111111111111111111.
+fn put_number(value: &mut [u8])
+    requires { ⌜ 22 ≤ length (now value) ⌝ }
+{
+    let mut i: usize = 0;
+    while i < 22 {
+        value[i] = b'1';
+        i += 1;
+    }
+}
+
+fn put_byte(value: &mut [u8], at: usize, byte: u8)
+    requires { ⌜ at < length (now value) ⌝ }
+{
+    value[at] = byte;
+}
+
+// Four bytes at a place, high byte first.
+fn put_word(value: &mut [u8], at: usize, word: u32)
+    requires { ⌜ at + 4 ≤ length (now value) ⌝ }
+{
+    let bytes = numbers::word_bytes(word as i64);
+    put_byte(value, at, bytes[4]);
+    put_byte(value, at + 1, bytes[5]);
+    put_byte(value, at + 2, bytes[6]);
+    put_byte(value, at + 3, bytes[7]);
+}
+
+// The same reading so many times, from the front of the part.
+fn put_readings(part: &mut [u8], count: usize, reading: u32)
+    requires { ⌜ count * 4 ≤ length (now part) ⌝ }
+{
+    let mut i: usize = 0;
+    while i < count {
+        put_word(part, i * 4, reading);
+        i += 1;
+    }
+}
+
+// A high-voltage consumer: 1,200 in every slot of the test day and the thirty days back, except the
+// earlier slots 16 to 21 and the window slots 26 to 31 of the test day.
+pub fn put_consumer(value: &mut [u8], earlier: u32, used: u32)
+    requires { ⌜ length (now value) ≡ 5975 ⌝ }
+{
+    put_number(value);
+    put_byte(value, 22, 2);
+    put_readings(&mut value[23..5975], 1488, 1200);
+    put_readings(&mut value[87..111], 6, earlier);
+    put_readings(&mut value[127..151], 6, used);
+}
+
+// A generator: its baseline in kW, the first reading and the same reading in the five other slots.
+pub fn put_generator(value: &mut [u8], baseline: u32, first: u32, others: u32)
+    requires { ⌜ length (now value) ≡ 50 ⌝ }
+{
+    put_number(value);
+    put_word(value, 22, baseline);
+    put_word(value, 26, first);
+    put_readings(&mut value[30..50], 5, others);
+}
