@@ -43,9 +43,8 @@ fn read_points(opened: State, book: &[u8], start: usize) -> Ending
         let end = from + size;
         let mut places = [0i64; 6];
         let added = ledger::add(state, tag, &book[from..end], &mut places);
-        let refusal = added.refusal;
-        if refusal != ledger::refusals::ACCEPTED {
-            return refused(refusal);
+        if added.refusal != ledger::refusals::ACCEPTED {
+            return refused(added.refusal);
         }
         state = added.state;
         at = end;
@@ -76,9 +75,8 @@ pub fn read(book: &[u8]) -> Ending
     let from = head_end + 3;
     let end = from + calendar_size;
     let opened = ledger::open(&book[3..head_end], &book[from..end]);
-    let refusal = opened.refusal;
-    if refusal != ledger::refusals::ACCEPTED {
-        return refused(refusal);
+    if opened.refusal != ledger::refusals::ACCEPTED {
+        return refused(opened.refusal);
     }
     let state = opened.state;
     read_points(state, book, end)

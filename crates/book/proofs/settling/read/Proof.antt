@@ -191,7 +191,7 @@ refused-requires-3 c κs = search needs
 -- src/settling.rt:81:9
 returns-3 : tie.Need-returns-3
 returns-3 c =
-    let q = c .before .before .before .before .before in
+    let q = c .before .before .before .before .before .before in
     let k = q .before .before .before .before .before in
     let h = k .before .head .given in
     let book = k .before .before .before .before .before .args .book .now in
@@ -200,14 +200,14 @@ returns-3 c =
     let g = q .before .calendar .given in
     let end = cut-end Calendar book (3 + h .0 .1 .0) _ (q .before .before .before .cut2 .ensures) within (g .0 .0) (g .0 .1 .0) (g .1) in
     let f = cut-here Calendar book (3 + h .0 .1 .0) _ (q .before .before .before .cut2 .ensures) (Value (g .0 .0) (g .0 .1 .0)) (g .1) in
-    let a = c .before .before .open .ensures in
+    let a = c .before .before .before .open .ensures in
     c .refused3 .ensures ∙ ap refusedWith (ap (λ y. y .refusal) a)
     ∙ sym (not-opened-here book (h .0 .0) (h .0 .1 .0) e (g .0 .0) (g .0 .1 .0) f (rw a at (c .before .if1 .taken)))
 
 -- src/settling.rt:84:5
 read-points-requires : tie.Need-read-points-requires
 read-points-requires c κs =
-    let q = c .before .before .before .before .before in
+    let q = c .before .before .before .before .before .before in
     let k = q .before .before .before .before .before in
     let h = k .before .head .given in
     let book = k .before .before .before .before .before .args .book .now in
@@ -220,7 +220,7 @@ read-points-requires c κs =
 -- src/settling.rt:64:1
 returns-4 : tie.Need-returns-4
 returns-4 c =
-    let q = c .before .before .before .before .before .before in
+    let q = c .before .before .before .before .before .before .before in
     let k = q .before .before .before .before .before in
     let h = k .before .head .given in
     let book = k .before .before .before .before .before .args .book .now in
@@ -229,7 +229,7 @@ returns-4 c =
     let g = q .before .calendar .given in
     let end = cut-end Calendar book (3 + h .0 .1 .0) _ (q .before .before .before .cut2 .ensures) within (g .0 .0) (g .0 .1 .0) (g .1) in
     let f = cut-here Calendar book (3 + h .0 .1 .0) _ (q .before .before .before .cut2 .ensures) (Value (g .0 .0) (g .0 .1 .0)) (g .1) in
-    let a = c .before .before .before .open .ensures in
+    let a = c .before .before .before .before .open .ensures in
     c .read-points .ensures ∙ rw a (sym (was-opened-here book (h .0 .0) (h .0 .1 .0) e (g .0 .0) (g .0 .1 .0) f (sym (ap (λ y. y .refusal) a) ∙ c .before .before .if1 .left)))
 
 pub read-spec : {M : Type 1} → statement M

@@ -119,12 +119,12 @@ refused-requires-2 c κs = search needs
 -- src/settling.rt:48:13
 returns-2 : tie.Need-returns-2 Inv-loop μ-loop
 returns-2 c =
-    let k = c .before .before .before .before .before .before in
+    let k = c .before .before .before .before .before .before .before in
     let l = k .before .before .before .before .before .before .loop in
     let book = k .before .before .before .before .before .before .before .before .before .args .book .now in
     let f = k .before .field .given in
     let e = cut-here Point book (l .at) _ (k .before .before .before .cut .ensures) (Value (f .0 .0) (f .0 .1 .0)) (f .1) in
-    let a = c .before .before .before .add .ensures .0 in
+    let a = c .before .before .before .before .add .ensures .0 in
     c .refused2 .ensures ∙ ap refusedWith (ap (λ y. y .refusal) a)
     ∙ sym (l .inv .1 ∙ stopped (l .due) (l .state) book (l .at) (k .before .before .before .before .before .loop-test .taken) (f .0 .0) (f .0 .1 .0) e (rw a at (c .before .if1 .taken)))
 
@@ -139,12 +139,12 @@ loop-less c = search needs
 -- src/settling.rt:37:5
 loop-again : tie.Need-loop-again Inv-loop μ-loop
 loop-again c =
-    let k = c .before .before .before .before .before .before in
+    let k = c .before .before .before .before .before .before .before in
     let l = k .before .before .before .before .before .before .loop in
     let book = k .before .before .before .before .before .before .before .before .before .args .book .now in
     let f = k .before .field .given in
     let e = cut-here Point book (l .at) _ (k .before .before .before .cut .ensures) (Value (f .0 .0) (f .0 .1 .0)) (f .1) in
-    let a = c .before .before .before .add .ensures .0 in (
+    let a = c .before .before .before .before .add .ensures .0 in (
       cut-end Point book (l .at) _ (k .before .before .before .cut .ensures) (l .inv .0) (f .0 .0) (f .0 .1 .0) (f .1),
       l .inv .1 ∙ went-on (l .due) (l .state) book (l .at) (k .before .before .before .before .before .loop-test .taken) (f .0 .0) (f .0 .1 .0) e (sym (ap (λ y. y .refusal) a) ∙ c .before .if1 .left)
           ∙ rw a refl,
