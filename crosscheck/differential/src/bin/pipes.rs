@@ -5,6 +5,8 @@
 use std::io::Write;
 use std::process::{Command, Stdio};
 
+use settlement::books::examples::consumer_of_example_h;
+use settlement::books::fields::{GeneratorFields, HeadFields, List, PointFields};
 use settlement::books::seeded_book;
 use settlement::text::settle_book_text;
 
@@ -25,6 +27,27 @@ fn printed(program: &str, book: &[u8]) -> Vec<u8> {
     output.stdout
 }
 
+/// A book of many points, of which every tenth is a consumer.
+fn long_book(points: u32) -> Vec<u8> {
+    let mut list = List::new(HeadFields::EXAMPLE_M);
+    for number in 1..=points {
+        list.push(match number % 10 {
+            0 => PointFields::Consumer(consumer_of_example_h(u128::from(number), number * 7 % 3_000)),
+            _ => PointFields::Generator(GeneratorFields::flat(u128::from(number), number % 5, number * 13)),
+        });
+    }
+    list.book()
+}
+
+/// Whether the program prints for a book what the separate settlement says.
+fn agrees(program: &str, name: &str, book: &[u8]) -> bool {
+    let same = printed(program, book) == settle_book_text(book).into_bytes();
+    if !same {
+        eprintln!("{name}: other text");
+    }
+    same
+}
+
 fn main() {
     let mut arguments = std::env::args().skip(1);
     let program = arguments.next().expect("the program's path");
@@ -33,13 +56,14 @@ fn main() {
     let first = numbers.next().unwrap_or(0);
     let mut differing = 0;
     for number in first..first + count {
-        let book = seeded_book(number).book;
-        if printed(&program, &book) != settle_book_text(&book).into_bytes() {
-            eprintln!("book {number}: other text");
-            differing += 1;
-        }
+        let same = agrees(&program, &format!("book {number}"), &seeded_book(number).book);
+        differing += u64::from(!same);
     }
-    println!("{count} books from {first} on fed through a pipe, {differing} differ");
+    for points in [700, 10_000] {
+        let same = agrees(&program, &format!("book of {points} points"), &long_book(points));
+        differing += u64::from(!same);
+    }
+    println!("{count} books from {first} on and two of 700 and 10,000 points fed through a pipe, {differing} differ");
     if differing > 0 {
         std::process::exit(1);
     }
