@@ -6,21 +6,21 @@ use native.Mathlib.Omega.{arith}
 use borrow.Author.Tests.{eq-eqb, ne-eqb}
 use lib.ListN.{length, take, drop, length-drop}
 use lib.Seq.{drop-drop, take-all}
-use Rattle.ledger.specs.Points.{Point}
+use Rattle.values.specs.Points.{Point}
 use Rattle.ledger.specs.Operations.{openOf, addOf, closeOf}
 use Rattle.ledger.specs.declared.State.{State}
 use Rattle.ledger.specs.declared.Opened.{Opened}
 use Rattle.ledger.specs.declared.Added.{Added}
-use Rattle.book.specs.Fields.{fieldOf, valueIn, behind}
+use Rattle.fields.specs.Fields.{fieldOf, valueIn, behind}
 use Rattle.book.specs.Reading.{Reading, refused, good, _>>=_, Points, before, readPoints, Book, bookOf, readBook}
 use Rattle.book.specs.Endings.{refusedWith, pointsEnding, bookEnding}
 use Rattle.book.specs.Settling.{closingOf, resultBytes, settlingRefusal, settlingResult}
-use Rattle.book.specs.declared.Due.{Due}
-use Rattle.book.specs.declared.Due.the-variants as due
+use Rattle.fields.specs.declared.Due.{Due}
+use Rattle.fields.specs.declared.Due.the-variants as due
 use Rattle.book.specs.declared.Ending.{Ending}
-use Rattle.book.specs.declared.Field.{Field}
-use Rattle.book.specs.declared.Field.the-variants.{Value, Refused}
-use Rattle.book.proofs.Cutting.{cut-within}
+use Rattle.fields.specs.declared.Field.{Field}
+use Rattle.fields.specs.declared.Field.the-variants.{Value, Refused}
+use Rattle.fields.proofs.Answers.{cut-within}
 use Rattle.book.proofs.Readings.{Told, book-told}
 use Rattle.book.proofs.Figures.{closes}
 

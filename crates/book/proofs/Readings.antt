@@ -9,13 +9,13 @@ use lib.Dec.{eqb}
 use lib.ListN.{length}
 use Rattle.ledger.specs.Operations.{openOf, addOf}
 use Rattle.ledger.specs.declared.State.{State}
-use Rattle.book.specs.Fields.{fieldOf}
+use Rattle.fields.specs.Fields.{fieldOf}
 use Rattle.book.specs.Reading.{Reading, refused, good, _>>=_, unless, Part, handedOn, field, openTest, addPoint, Points, before, readPoints, Book, bookOf, readBook}
-use Rattle.book.specs.declared.Due.{Due}
-use Rattle.book.specs.declared.Due.the-variants.{Head, Calendar, Point}
-use Rattle.book.specs.declared.Field.{Field}
-use Rattle.book.specs.declared.Field.the-variants.{Value, Refused}
-use Rattle.book.proofs.Cutting.{Answer, no-header, no-value, whole, answer}
+use Rattle.fields.specs.declared.Due.{Due}
+use Rattle.fields.specs.declared.Due.the-variants.{Head, Calendar, Point}
+use Rattle.fields.specs.declared.Field.{Field}
+use Rattle.fields.specs.declared.Field.the-variants.{Value, Refused}
+use Rattle.fields.proofs.Answers.{Answer, no-header, no-value, whole, answer}
 
 -- ---- one step
 

@@ -13,18 +13,19 @@ use mir.Facts.{and-yes, yes-and}
 use Rattle.numbers.specs.Lists.{gather}
 use Rattle.numbers.specs.PointNumbers.{below}
 use Rattle.numbers.proofs.Refusals.{Clear, clear, clear-zero}
-use Rattle.ledger.specs.Heads.{headOf}
-use Rattle.ledger.specs.Points.{Point, kindOf, isUnknown, numberOf, lacksDays}
+use Rattle.values.specs.Heads.{headOf}
+use Rattle.values.specs.Points.{Point, kindOf, isUnknown, numberOf, lacksDays}
 use Rattle.ledger.specs.States.{opened, isUnsound, taken}
 use Rattle.ledger.specs.Operations.{pointTests, pointRefusal, addingRefusal, resultsOf, addOf}
-use Rattle.ledger.specs.declared.Head.{Head}
+use Rattle.values.specs.declared.Head.{Head}
 use Rattle.ledger.specs.declared.State.{State}
-use Rattle.ledger.proofs.Sound.{open-refusal, open-good, add-refusal, add-good, Sound, opening-lengths, opened-sound, adding-sound, taken-sound}
-use Rattle.book.specs.Fields.{isTag, written}
+use Rattle.values.proofs.Bounds.{opening-lengths}
+use Rattle.ledger.proofs.Sound.{open-refusal, open-good, add-refusal, add-good, Sound, opened-sound, adding-sound, taken-sound}
+use Rattle.fields.specs.Fields.{isTag, written}
 use Rattle.book.specs.Reading.{Reading, good, Part, Points, before, readPoints, Contents, Book, bookOf, readBook}
-use Rattle.book.specs.Writing.{pointWritingTests, pointWritingRefusal, writtenHead, writtenBook}
-use Rattle.book.specs.Demand2.{risesAfter, rises, roomFor, Each, Writable, Bytes, ReadsBack, WritesSame}
-use Rattle.book.specs.declared.Due.the-variants as due
+use Rattle.fields.specs.Writing.{pointWritingTests, pointWritingRefusal, writtenHead}
+use Rattle.book.specs.Demand2.{risesAfter, rises, roomFor, Each, Writable, Bytes, ReadsBack, WritesSame, writtenBook}
+use Rattle.fields.specs.declared.Due.the-variants as due
 use Rattle.book.proofs.Cutting.{reads-field, was-written}
 use Rattle.book.proofs.Readings.{Points-read, none, more, Book-read, book-read}
 

@@ -5,15 +5,16 @@ use mathlib.Core.List.{List, [], _∷_, _++_, map}
 use Prim.Native.Nat.{ℕ, _+_, _<_}
 use lib.Dec.{T}
 use lib.ListN.{length, getD}
-use Rattle.numbers.specs.Lists.{any}
+use Rattle.numbers.specs.Lists.{any, gather}
 use Rattle.numbers.specs.PointNumbers.{below}
-use Rattle.ledger.specs.Heads.{headOf, openingRefusal}
-use Rattle.ledger.specs.Points.{Point, kindOf, numberOf, lacksDays}
+use Rattle.values.specs.Heads.{headOf, openingRefusal}
+use Rattle.values.specs.Points.{Point, kindOf, numberOf, lacksDays}
 use Rattle.ledger.specs.Operations.{closeOf}
 use Rattle.ledger.specs.Account.{Call, adding, closing}
 use Rattle.ledger.specs.Demand3.{Reply, accepted, closed, program}
 use Rattle.book.specs.Reading.{Reading, refused, good, Contents, Book, readBook}
-use Rattle.book.specs.Writing.{pointWritingRefusal, writtenBook}
+use Rattle.fields.specs.Fields.{written}
+use Rattle.fields.specs.Writing.{writtenHead, pointWritingRefusal}
 use Rattle.book.specs.Settling.{settlingRefusal}
 
 -- 'rising in number', after a number and from the first point on
@@ -24,6 +25,10 @@ risesAfter number (p ∷ points) = below number (numberOf (p .value)) && risesAf
 abbrev pub rises : List Point → Bool
 rises [] = true
 rises (p ∷ points) = risesAfter (numberOf (p .value)) points
+
+-- what writing puts for a head, a calendar and points, one after the other
+unfoldable pub writtenBook : Contents → List ℕ
+writtenBook b = writtenHead (b .head) (b .calendar) ++ gather (λ p. written (p .tag) (p .value)) (b .points)
 
 -- what a point's field takes
 abbrev pub roomFor : Point → ℕ

@@ -1,8 +1,4 @@
-pub mod Fields
-pub mod Headers
 pub mod Reading
-pub mod Writing
-pub mod WritingRows
 pub mod Endings
 pub mod Settling
 pub mod Results

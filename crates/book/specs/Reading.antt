@@ -4,14 +4,14 @@ use mathlib.Core.List.{List, [], _∷_}
 use Prim.Native.Nat.{ℕ, zero, suc}
 use lib.Dec.{eqb}
 use lib.ListN.{length}
-use Rattle.ledger.specs.Points.{Point}
+use Rattle.values.specs.Points.{Point}
 use Rattle.ledger.specs.Operations.{openOf, addOf}
 use Rattle.ledger.specs.declared.State.{State}
-use Rattle.book.specs.Fields.{fieldOf, valueIn, behind}
-use Rattle.book.specs.declared.Due.{Due}
-use Rattle.book.specs.declared.Due.the-variants as due
-use Rattle.book.specs.declared.Field.{Field}
-use Rattle.book.specs.declared.Field.the-variants.{Value, Refused}
+use Rattle.fields.specs.Fields.{fieldOf, valueIn, behind}
+use Rattle.fields.specs.declared.Due.{Due}
+use Rattle.fields.specs.declared.Due.the-variants as due
+use Rattle.fields.specs.declared.Field.{Field}
+use Rattle.fields.specs.declared.Field.the-variants.{Value, Refused}
 
 -- A refusal ends the reading; a good step hands something on.
 pub data Reading (A : Type 0) : Type 0 where

@@ -9,11 +9,10 @@ ghost use Rattle.book.specs.Reading.{readPoints, readBook};
 ghost use Rattle.book.specs.Endings.{refusedWith, pointsEnding, bookEnding};
 ghost use Rattle.book.specs.Settling.{wordsOf, settlingRefusal, settlingResult};
 ghost use Rattle.book.specs.Results.{SmallWords, wordBytes};
-use crate::Due;
 use crate::Ending;
-use crate::Field;
-use crate::fields;
-use crate::refusals;
+use fields::Due;
+use fields::Field;
+use fields::cutting;
 use ledger::Figures;
 use ledger::State;
 
@@ -35,15 +34,15 @@ fn read_points(opened: State, book: &[u8], start: usize) -> Ending
     let mut state = opened;
     let mut at = start;
     while 0 < due {
-        let field = fields::cut(Due::Point, &book[at..]);
+        let field = cutting::cut(Due::Point, &book[at..]);
         let Field::Value(tag, size) = field else {
-            return refused(fields::refusal_of(field));
+            return refused(cutting::refusal_of(field));
         };
         let from = at + 3;
         let end = from + size;
         let mut places = [0i64; 6];
         let added = ledger::add(state, tag, &book[from..end], &mut places);
-        if added.refusal != ledger::refusals::ACCEPTED {
+        if added.refusal != values::refusals::ACCEPTED {
             return refused(added.refusal);
         }
         state = added.state;
@@ -51,10 +50,10 @@ fn read_points(opened: State, book: &[u8], start: usize) -> Ending
         due -= 1;
     }
     if at != book.len() {
-        return refused(refusals::BYTES_AFTER);
+        return refused(fields::refusals::BYTES_AFTER);
     }
     Ending {
-        refusal: ledger::refusals::ACCEPTED,
+        refusal: values::refusals::ACCEPTED,
         state,
     }
 }
@@ -63,19 +62,19 @@ fn read_points(opened: State, book: &[u8], start: usize) -> Ending
 pub fn read(book: &[u8]) -> Ending
     ensures { λ r. ⌜ r ≡ bookEnding (readBook (now (book .entry))) ⌝ }
 {
-    let head = fields::cut(Due::Head, book);
+    let head = cutting::cut(Due::Head, book);
     let Field::Value(_, head_size) = head else {
-        return refused(fields::refusal_of(head));
+        return refused(cutting::refusal_of(head));
     };
     let head_end = 3 + head_size;
-    let calendar = fields::cut(Due::Calendar, &book[head_end..]);
+    let calendar = cutting::cut(Due::Calendar, &book[head_end..]);
     let Field::Value(_, calendar_size) = calendar else {
-        return refused(fields::refusal_of(calendar));
+        return refused(cutting::refusal_of(calendar));
     };
     let from = head_end + 3;
     let end = from + calendar_size;
     let opened = ledger::open(&book[3..head_end], &book[from..end]);
-    if opened.refusal != ledger::refusals::ACCEPTED {
+    if opened.refusal != values::refusals::ACCEPTED {
         return refused(opened.refusal);
     }
     let state = opened.state;
@@ -145,11 +144,11 @@ pub fn settle(book: &[u8], result: &mut [u8]) -> u32
     ensures { λ r. ⌜ (r ≡ settlingRefusal (now (book .entry)) (length (now (result .entry)))) × (now (result .exit) ≡ settlingResult (now (book .entry)) (now (result .entry))) ⌝ }
 {
     if result.len() != 64 {
-        return refusals::LENT_BYTES;
+        return fields::refusals::LENT_BYTES;
     }
     let ending = read(book);
     let refusal = ending.refusal;
-    if refusal != ledger::refusals::ACCEPTED {
+    if refusal != values::refusals::ACCEPTED {
         return refusal;
     }
     // The closing of a book that is read in full is never refused.
@@ -158,5 +157,5 @@ pub fn settle(book: &[u8], result: &mut [u8]) -> u32
     let figures = closed.figures;
     let words = words_of(figures);
     put_words(words, result);
-    ledger::refusals::ACCEPTED
+    values::refusals::ACCEPTED
 }

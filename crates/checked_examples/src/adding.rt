@@ -1,14 +1,14 @@
 // Addings of a high-voltage consumer: C, H to K and use 1,200.
+use crate::handed;
 use crate::text;
-use crate::values;
 use ledger::State;
 
 // The refusal of an adding, or the six places where there is none.
 fn add(state: State, value: &[u8]) {
     let mut places = [0i64; 6];
-    let added = ledger::add(state, ledger::points::CONSUMER, value, &mut places);
+    let added = ledger::add(state, values::points::CONSUMER, value, &mut places);
     let refusal = added.refusal;
-    if refusal == ledger::refusals::ACCEPTED {
+    if refusal == values::refusals::ACCEPTED {
         text::results(&places);
     } else {
         text::refusal(refusal);
@@ -17,9 +17,9 @@ fn add(state: State, value: &[u8]) {
 
 // A line for a consumer on days that all have the mark.
 fn line(mark: u8, earlier: u32, used: u32, paper: &[u8]) {
-    let state = values::opened(mark);
+    let state = handed::opened(mark);
     let mut value = [0u8; 5975];
-    values::put_consumer(&mut value, earlier, used);
+    handed::put_consumer(&mut value, earlier, used);
     add(state, &value);
     text::paper(paper);
 }

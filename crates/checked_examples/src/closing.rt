@@ -1,12 +1,12 @@
 // Closings of a list of one generator: L.
+use crate::handed;
 use crate::text;
-use crate::values;
 use ledger::Figures;
 use ledger::State;
 
 fn close(state: State, value: &[u8]) -> Figures {
     let mut places = [0i64; 6];
-    let added = ledger::add(state, ledger::points::GENERATOR, value, &mut places);
+    let added = ledger::add(state, values::points::GENERATOR, value, &mut places);
     let after = added.state;
     let closed = ledger::close(after);
     let figures = closed.figures;
@@ -14,9 +14,9 @@ fn close(state: State, value: &[u8]) -> Figures {
 }
 
 fn figures_of(baseline: u32, first: u32, others: u32) -> Figures {
-    let state = values::opened(0);
+    let state = handed::opened(0);
     let mut value = [0u8; 50];
-    values::put_generator(&mut value, baseline, first, others);
+    handed::put_generator(&mut value, baseline, first, others);
     close(state, &value)
 }
 

@@ -2,9 +2,9 @@
 // Those with a star are proved too, of the definitions; here they are seen once in a running program.
 mod adding;
 mod closing;
+mod handed;
 mod opening;
 mod text;
-mod values;
 
 // A book of no bytes.
 fn empty_book() {

@@ -10,23 +10,24 @@ use lib.Dec.{leb, ltb, eqb}
 use lib.ListN.{length, take, drop, length-take, length-drop}
 use lib.Seq.{drop-drop, take-take}
 use mir.Facts.{and-yes}
-use Rattle.ledger.specs.Points.{numberOf}
-use Rattle.ledger.specs.Heads.{headOf, openingRefusal}
+use Rattle.values.specs.Points.{numberOf}
+use Rattle.values.specs.Heads.{headOf, openingRefusal}
 use Rattle.ledger.specs.States.{noState, opened, taken}
 use Rattle.ledger.specs.Operations.{openOf, addOf, resultsOf}
 use Rattle.ledger.specs.declared.State.{State}
-use Rattle.ledger.proofs.Sound.{open-refusal, open-good, add-refusal, add-good, opening-content}
-use Rattle.ledger.proofs.Bounds.{opens}
-use Rattle.book.specs.Fields.{tagAt, lengthDue, fieldOf, valueIn, behind}
-use Rattle.book.specs.Headers.{headerTests, headerRefusal}
+use Rattle.values.proofs.Bounds.{opening-content}
+use Rattle.ledger.proofs.Sound.{open-refusal, open-good, add-refusal, add-good}
+use Rattle.values.proofs.Bounds.{opens}
+use Rattle.fields.specs.Fields.{tagAt, lengthDue, fieldOf, valueIn, behind}
+use Rattle.fields.specs.Headers.{headerTests, headerRefusal}
 use Rattle.book.specs.Reading.{readPoints, readBook}
 use Rattle.book.specs.Endings.{refusedWith, pointsEnding, bookEnding}
-use Rattle.book.specs.declared.Due.{Due}
-use Rattle.book.specs.declared.Due.the-variants.{Head, Calendar, Point}
+use Rattle.fields.specs.declared.Due.{Due}
+use Rattle.fields.specs.declared.Due.the-variants.{Head, Calendar, Point}
 use Rattle.book.specs.declared.Ending.{Ending}
-use Rattle.book.specs.declared.Field.the-variants as field
-use Rattle.book.proofs.Headers.{header-shows}
-use Rattle.book.proofs.Cutting.{Answer, no-header, no-value, whole, answer}
+use Rattle.fields.specs.declared.Field.the-variants as field
+use Rattle.fields.proofs.Headers.{header-shows}
+use Rattle.fields.proofs.Answers.{Answer, no-header, no-value, whole, answer}
 use Rattle.book.proofs.Endings.{at-end, past-end, point-not-cut, point-refused, point-taken, no-head, no-calendar, not-opened, was-opened}
 use Rattle.feeding.specs.Feeding.{dueOf, startOf, refusedAt, ended, waiting, headerFed, pointOrEnd, going, got, valueFed, endFed, fedAt, feedOf, fed, endingFed, FieldByField, DueOnly}
 use Rattle.feeding.proofs.Values.{value-cut, value-whole}

@@ -5,8 +5,8 @@ use Prim.Native.Nat.{ℕ, _-_, _<_, _≤_}
 use native.Mathlib.Omega.{arith}
 use borrow.Author.Tests.{lt-ltb, le-ltb}
 use lib.ListN.{length, take}
-use Rattle.book.specs.Fields.{lengthDue}
-use Rattle.book.specs.declared.Due.{Due}
+use Rattle.fields.specs.Fields.{lengthDue}
+use Rattle.fields.specs.declared.Due.{Due}
 use Rattle.feeding.specs.Feeding.{refusedAt, got, valueFed}
 use Rattle.feeding.specs.declared.Progress.{Progress}
 

@@ -9,12 +9,12 @@ use lib.ListN.{length, take, drop, replicate}
 use Rattle.ledger.specs.States.{noState}
 use Rattle.ledger.specs.Operations.{openOf, addOf}
 use Rattle.ledger.specs.declared.State.{State}
-use Rattle.book.specs.Fields.{tagAt, lengthDue}
-use Rattle.book.specs.Headers.{headerRefusal}
+use Rattle.fields.specs.Fields.{tagAt, lengthDue}
+use Rattle.fields.specs.Headers.{headerRefusal}
 use Rattle.book.specs.Reading.{readBook}
 use Rattle.book.specs.Endings.{bookEnding}
-use Rattle.book.specs.declared.Due.{Due}
-use Rattle.book.specs.declared.Due.the-variants.{Head, Calendar, Point}
+use Rattle.fields.specs.declared.Due.{Due}
+use Rattle.fields.specs.declared.Due.the-variants.{Head, Calendar, Point}
 use Rattle.book.specs.declared.Ending.{Ending}
 use Rattle.feeding.specs.declared.Wait.{Wait}
 use Rattle.feeding.specs.declared.Wait.the-variants.{Header, Value, End, Nothing}

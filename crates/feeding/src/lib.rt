@@ -4,8 +4,8 @@ ghost use mathlib.Core.Bool.{Bool, true, false};
 ghost use Prim.Native.Nat.{ℕ, _≤_};
 ghost use lib.ListN.{length};
 ghost use Rattle.feeding.specs.Feeding.{dueOf, isOver, startOf, refusedAt, ended, headerFed, pointOrEnd, going, got, valueFed, endFed, feedOf};
-ghost use Rattle.book.specs.declared.Due.the-variants.{Head, Calendar, Point};
-use book::Due;
+ghost use Rattle.fields.specs.declared.Due.the-variants.{Head, Calendar, Point};
+use fields::Due;
 use ledger::State;
 
 // What is waited for: a header, the value behind one, the end of the book, or nothing more.
@@ -31,7 +31,7 @@ pub fn due(progress: Progress) -> usize
     let wait = progress.wait;
     match wait {
         Wait::Header(_) => 3,
-        Wait::Value(kind, tag) => book::fields::length_due(kind, tag),
+        Wait::Value(kind, tag) => fields::cutting::length_due(kind, tag),
         Wait::End => 1,
         Wait::Nothing => 0,
     }
@@ -59,7 +59,7 @@ pub fn start() -> Progress
         wait: Wait::Header(Due::Head),
         head: [0; 17],
         state,
-        refusal: ledger::refusals::ACCEPTED,
+        refusal: values::refusals::ACCEPTED,
     }
 }
 
@@ -93,7 +93,7 @@ fn point_or_end(state: State) -> Wait
 fn go_on(refusal: u32, state: State, progress: Progress) -> Progress
     ensures { λ r. ⌜ r ≡ going refusal state progress ⌝ }
 {
-    if refusal != ledger::refusals::ACCEPTED {
+    if refusal != values::refusals::ACCEPTED {
         return refused_at(refusal, progress);
     }
     let wait = point_or_end(state);
@@ -102,15 +102,15 @@ fn go_on(refusal: u32, state: State, progress: Progress) -> Progress
         wait,
         head,
         state,
-        refusal: ledger::refusals::ACCEPTED,
+        refusal: values::refusals::ACCEPTED,
     }
 }
 
 fn feed_header(kind: Due, progress: Progress, bytes: &[u8]) -> Progress
     ensures { λ r. ⌜ r ≡ headerFed kind progress (now (bytes .entry)) ⌝ }
 {
-    let refusal = book::fields::header_refusal(kind, bytes);
-    if refusal != ledger::refusals::ACCEPTED {
+    let refusal = fields::cutting::header_refusal(kind, bytes);
+    if refusal != values::refusals::ACCEPTED {
         return refused_at(refusal, progress);
     }
     let head = progress.head;
@@ -119,7 +119,7 @@ fn feed_header(kind: Due, progress: Progress, bytes: &[u8]) -> Progress
         wait: Wait::Value(kind, bytes[0]),
         head,
         state,
-        refusal: ledger::refusals::ACCEPTED,
+        refusal: values::refusals::ACCEPTED,
     }
 }
 
@@ -147,7 +147,7 @@ fn got_head(progress: Progress, value: &[u8]) -> Progress
         wait: Wait::Header(Due::Calendar),
         head,
         state,
-        refusal: ledger::refusals::ACCEPTED,
+        refusal: values::refusals::ACCEPTED,
     }
 }
 
@@ -175,9 +175,9 @@ fn got_point(tag: u8, progress: Progress, value: &[u8]) -> Progress
 fn feed_value(kind: Due, tag: u8, progress: Progress, bytes: &[u8]) -> Progress
     ensures { λ r. ⌜ r ≡ valueFed kind tag progress (now (bytes .entry)) ⌝ }
 {
-    let size = book::fields::length_due(kind, tag);
+    let size = fields::cutting::length_due(kind, tag);
     if bytes.len() < size {
-        return refused_at(book::refusals::BOOK_CUT, progress);
+        return refused_at(fields::refusals::BOOK_CUT, progress);
     }
     match kind {
         Due::Head => got_head(progress, &bytes[0..size]),
@@ -190,7 +190,7 @@ fn feed_end(progress: Progress, bytes: &[u8]) -> Progress
     ensures { λ r. ⌜ r ≡ endFed progress (now (bytes .entry)) ⌝ }
 {
     if bytes.len() != 0 {
-        return refused_at(book::refusals::BYTES_AFTER, progress);
+        return refused_at(fields::refusals::BYTES_AFTER, progress);
     }
     let head = progress.head;
     let state = progress.state;
@@ -198,7 +198,7 @@ fn feed_end(progress: Progress, bytes: &[u8]) -> Progress
         wait: Wait::Nothing,
         head,
         state,
-        refusal: ledger::refusals::ACCEPTED,
+        refusal: values::refusals::ACCEPTED,
     }
 }
 

@@ -10,17 +10,19 @@ use lib.ListN.{length, getD, replicate}
 use borrow.Author.Tests.{leb-false, eqb-true, not-false, eq-eqb, ne-eqb}
 use Rattle.numbers.specs.Refusals.{firstOf}
 use Rattle.numbers.proofs.Refusals.{Clear, clear, told, passed}
-use Rattle.ledger.specs.Heads.{contentRefusal}
-use Rattle.ledger.specs.Points.{Kind, kindOf, isUnknown, sizeOf, isUnfit, hasLarge, lacksDays, results}
+use Rattle.values.specs.Heads.{contentRefusal}
+use Rattle.values.specs.Points.{Kind, kindOf, isUnknown, sizeOf, isUnfit, hasLarge, lacksDays, results}
 use Rattle.ledger.specs.Operations.{pointRefusal, addingRefusal, placesOf, resultsOf}
-use Rattle.ledger.specs.Steps.{earlyTests, earlyRefusal, foundOf}
-use Rattle.ledger.specs.declared.Head.{Head}
+use Rattle.ledger.specs.Steps.{earlyTests, earlyRefusal}
+use Rattle.values.specs.declared.Head.{Head}
 use Rattle.ledger.specs.declared.State.{State}
-use Rattle.ledger.specs.declared.results.Found.{Found}
-use Rattle.ledger.proofs.Bounds.{takes, opens, result-small}
-use Rattle.ledger.proofs.EarlyRows.{known-length}
+use Rattle.values.specs.declared.results.Found.{Found}
+use Rattle.values.specs.Steps.{foundOf}
+use Rattle.values.proofs.Bounds.{opens}
+use Rattle.values.proofs.PointRows.{known-length}
+use Rattle.ledger.proofs.Taking.{takes, result-small}
 use Rattle.ledger.proofs.Sound.{Sound, sound, adding-sound}
-use Rattle.ledger.proofs.Totals.{total-small}
+use Rattle.ledger.proofs.TotalBounds.{total-small}
 
 -- ---- the days
 

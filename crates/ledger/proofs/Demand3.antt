@@ -12,20 +12,22 @@ use lib.ListN.{length, replicate, length-append}
 use borrow.Author.Tests.{ne-eqb}
 use Rattle.numbers.specs.Lists.{any, gather}
 use Rattle.numbers.specs.Integers.{divides, sumℤ}
-use Rattle.ledger.specs.Heads.{headOf, openingRefusal}
-use Rattle.ledger.specs.Points.{Point, kindOf, numberOf, quotients, results}
+use Rattle.values.specs.Heads.{headOf, openingRefusal}
+use Rattle.values.specs.Points.{Point, kindOf, numberOf, quotients, results}
 use Rattle.ledger.specs.States.{noState, plus, taken}
 use Rattle.ledger.specs.Figures.{figuresOf}
 use Rattle.ledger.specs.Operations.{pointRefusal, addingRefusal, closingRefusal, closeOf}
 use Rattle.ledger.specs.Account.{Call, adding, closing, Account, product, partsOfkW, partsOfWatt, partsOfWh, exactly, exactSum, exactShortfall, opening, Said, said, saysOf, allRefused, account}
 use Rattle.ledger.specs.Demand3.{refused, accepted, closed, replyOf, replies, program, takenBefore, takenAll, allQuotients, roundedTotal, noRemainder, noLoss, keepsFractions, Accurate, Agree, both-refuse, both-accept, both-close, AgreeAll, end, next, Demand3}
-use Rattle.ledger.specs.declared.Head.{Head}
+use Rattle.values.specs.declared.Head.{Head}
 use Rattle.ledger.specs.declared.State.{State}
 use Rattle.ledger.specs.declared.Figures.{Figures}
-use Rattle.ledger.proofs.Lists.{every, none-append, gather-append}
-use Rattle.ledger.proofs.Sums.{sum-append, taken-total, length-plus}
+use Rattle.numbers.proofs.Tests.{every, none-append, gather-append}
+use Rattle.ledger.proofs.Sums.{sum-append, taken-total}
+use Rattle.ledger.proofs.SlotTotals.{plus-length}
 use Rattle.ledger.proofs.Rounding.{whole, compared}
-use Rattle.ledger.proofs.Bounds.{opens, takes, six-quotients, six-results}
+use Rattle.values.proofs.Bounds.{opens}
+use Rattle.ledger.proofs.Taking.{takes, six-quotients, six-results}
 use Rattle.ledger.proofs.Divisors.{goes-by, wh-pos, wholes}
 use Rattle.ledger.proofs.Sound.{Sound, open-good, open-bad, opened-sound, add-good, add-bad, adding-sound, taken-sound, close-good, close-bad, closing-sound, nothing-taken, nothing-closed}
 
@@ -66,7 +68,7 @@ module _ (h : Head) (marks : List ℕ) where
       record {
         sound = taken-sound (stateOf points last totals) (a .sound) tag value places e;
         count = simp length-append (omega arith);
-        six = length-plus totals _ (a .six ∙ sym results-six) ∙ a .six;
+        six = plus-length totals _ (a .six ∙ sym results-six) ∙ a .six;
         total = taken-total (stateOf points last totals) _ (numberOf value) (a .six ∙ sym results-six) ∙ rw (a .total, more, sum-append);
         exact = rw (a .exact, more, sum-append);
         sixes = rw more (simp length-append (omega arith));

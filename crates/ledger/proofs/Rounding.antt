@@ -18,9 +18,9 @@ use Rattle.numbers.specs.Lists.{any}
 use Rattle.numbers.specs.Integers.{floorDiv, divides, orZero, sumℤ}
 use Rattle.numbers.proofs.Differences.{by⊖, ⊖s}
 use Rattle.numbers.proofs.Floors.{rest, rest-<, rest-is, divides-rest}
-use Rattle.ledger.specs.Points.{Quotient, rounded}
+use Rattle.values.specs.Points.{Quotient, rounded}
 use Rattle.ledger.specs.Figures.{settledOf, shortfallOf}
-use Rattle.ledger.proofs.Lists.{every, every-cons}
+use Rattle.numbers.proofs.Tests.{every, every-cons}
 
 -- a quotient is whole
 abbrev pub whole : Quotient → Bool

@@ -12,8 +12,8 @@ use Rattle.numbers.specs.PointNumbers.{digits, same, isNumber, below}
 use Rattle.calendar.specs.Dates.{isDate, dayCount}
 use Rattle.baseline.specs.Readings.{firstLarge, windowSums, slotSums, daySums, earlierUse}
 use Rattle.baseline.specs.Choosing.{walk, lowest, used, chosen}
-use Rattle.ledger.specs.Heads.{headOf, contentRefusal, openingRefusal}
-use Rattle.ledger.specs.Points.{quotients}
+use Rattle.values.specs.Heads.{headOf, contentRefusal, openingRefusal}
+use Rattle.values.specs.Points.{quotients}
 use Rattle.ledger.specs.States.{isUnsound, plus, taken}
 use Rattle.ledger.specs.Figures.{figuresOf}
 use Rattle.ledger.specs.Operations.{openOf, pointRefusal, addingRefusal, addOf, closingRefusal, closeOf}

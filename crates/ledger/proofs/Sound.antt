@@ -8,30 +8,29 @@ use native.Mathlib.Decide.{ℕ-discrete}
 use native.Mathlib.Omega.{arith}
 use lib.Dec.{T, ltb, eqb}
 use lib.IntN.{ℤ, _+ℤ_}
-use lib.ListN.{length}
-use mir.Facts.{ltb-no, no-ltb, eqb-yes, no-eqb}
+use mir.Facts.{ltb-no, no-ltb, no-eqb}
 use borrow.Author.Tests.{eqb-true, eq-eqb, ne-eqb, not-false}
 use Rattle.numbers.specs.Lists.{any}
 use Rattle.numbers.specs.Refusals.{firstOf}
 use Rattle.numbers.specs.PointNumbers.{isNumber}
 use Rattle.numbers.proofs.Differences.{natAbs-+ℤ}
-use Rattle.numbers.proofs.Refusals.{Clear, clear, clear-zero}
 use Rattle.calendar.specs.Dates.{isDate}
-use Rattle.ledger.specs.Limits.{mostResult}
-use Rattle.ledger.specs.Heads.{headOf, contentTests, contentRefusal, openingRefusal}
-use Rattle.ledger.specs.Points.{numberOf}
+use Rattle.values.specs.Limits.{mostResult}
+use Rattle.values.specs.Heads.{headOf, contentRefusal, openingRefusal}
+use Rattle.values.specs.Points.{numberOf}
 use Rattle.ledger.specs.States.{opened, noState, isUnsound, plus, taken}
 use Rattle.ledger.specs.Figures.{figuresOf, noFigures}
 use Rattle.ledger.specs.Operations.{openOf, pointTests, pointRefusal, addingRefusal, resultsOf, addOf, closingRefusal, closeOf}
 use Rattle.ledger.specs.Account.{Call, adding, closing}
 use Rattle.ledger.specs.Demand3.{Reply, refused, accepted, closed, replyOf, replies, program}
-use Rattle.ledger.specs.declared.Head.{Head}
+use Rattle.values.specs.declared.Head.{Head}
 use Rattle.ledger.specs.declared.State.{State}
 use Rattle.ledger.specs.declared.Opened.{Opened}
 use Rattle.ledger.specs.declared.Added.{Added}
 use Rattle.ledger.specs.declared.Closed.{Closed}
-use Rattle.ledger.proofs.Lists.{noneOf, none-cons, no-false}
-use Rattle.ledger.proofs.Bounds.{both, opens, takes, isBeyond, results-small}
+use Rattle.numbers.proofs.Tests.{noneOf, none-cons, no-false}
+use Rattle.values.proofs.Bounds.{opening-content, opens, isBeyond}
+use Rattle.ledger.proofs.Taking.{takes, results-small}
 
 -- ---- the answers of the operations, by the refusal
 
@@ -117,22 +116,9 @@ module _ (state : State) where
 -- ---- along a run
 
 module _ (head calendar : List ℕ) (accepted : openingRefusal head calendar ≡ 0) where
-  opening-clear : Clear ((not (eqb (length head) 17 && eqb (length calendar) 30), 1) ∷ contentTests (headOf head) calendar)
-  unfolding openingRefusal
-  opening-clear = clear ((not (eqb (length head) 17 && eqb (length calendar) 30), 1) ∷ contentTests (headOf head) calendar) tt accepted
-
-  pub opening-lengths : (length head ≡ 17) × (length calendar ≡ 30)
-  opening-lengths =
-      let t = both (eqb (length head) 17) (eqb (length calendar) 30) (opening-clear .0) in
-      (eqb-yes (t .0), eqb-yes (t .1))
-
-  pub opening-content : contentRefusal (headOf head) calendar ≡ 0
-  unfolding contentRefusal
-  opening-content = clear-zero (contentTests (headOf head) calendar) (opening-clear .1)
-
   pub opened-sound : Sound (opened (headOf head) calendar)
   unfolding any
-  opened-sound = record { content = opening-content; room = omega arith; totals = tt; last = tt }
+  opened-sound = record { content = opening-content head calendar accepted; room = omega arith; totals = tt; last = tt }
 
 plus-small : (k l : ℕ) (xs ys : List ℤ) → T (noneOf (isBeyond k) xs) → T (noneOf (isBeyond l) ys) → T (noneOf (isBeyond (k + l)) (plus xs ys))
 unfolding plus any

@@ -1,7 +1,7 @@
 -- Sums of signed numbers: of lists one after the other, and slot by slot. Assumes nothing.
 use mathlib.Core.Path.{_≡_, refl, sym, _∙_, ap}
 use mathlib.Core.List.{List, [], _∷_, _++_, map}
-use Prim.Native.Nat.{ℕ, suc}
+use Prim.Native.Nat.{ℕ}
 use native.Mathlib.Omega.{arith}
 use lib.IntN.{ℤ, _+ℤ_, +ℤ-idl, +ℤ-assoc}
 use lib.ListN.{length}
@@ -30,9 +30,3 @@ pub taken-total : (state : State) (found : List ℤ) (number : List ℕ) → len
     → sumℤ (taken state found number .totals) ≡ sumℤ (state .totals) +ℤ sumℤ found
 unfolding taken
 taken-total state found number e = sum-plus (state .totals) found e
-
-pub length-plus : (xs ys : List ℤ) → length xs ≡ length ys → length (plus xs ys) ≡ length xs
-unfolding plus
-length-plus [] ys e = refl
-length-plus (x ∷ xs) [] e = absurd (omega arith)
-length-plus (x ∷ xs) (y ∷ ys) e = ap suc (length-plus xs ys (omega arith))

@@ -1,6 +1,3 @@
-pub mod Limits
-pub mod Heads
-pub mod Points
 pub mod States
 pub mod Figures
 pub mod Operations

@@ -3,30 +3,15 @@ ghost use mathlib.Core.Path.{_≡_};
 ghost use mathlib.Core.Bool.{not, _&&_};
 ghost use mathlib.Core.List.{List, [], _∷_};
 ghost use Prim.Native.Nat.{ℕ};
-ghost use lib.Dec.{leb, ltb, eqb};
-ghost use lib.ListN.{length};
+ghost use lib.Dec.{leb, ltb};
 ghost use Rattle.numbers.specs.Refusals.{firstOf};
 ghost use Rattle.numbers.specs.PointNumbers.{isNumber, below};
-ghost use Rattle.ledger.specs.Points.{kindOf, isUnknown, sizeOf, isUnfit, hasLarge};
 ghost use Rattle.ledger.specs.States.{isUnsound};
 ghost use Rattle.ledger.specs.Steps.{earlyRefusal};
 use crate::State;
-use crate::points;
-use crate::refusals;
 use crate::states;
-
-// A tag of no point, or a value that is not as long as its tag says.
-pub fn form_refusal(tag: u8, length: usize) -> u32
-    ensures { λ r. ⌜ r ≡ firstOf ((isUnknown (kindOf tag), 11) ∷ (not (eqb length (sizeOf (kindOf tag))), 12) ∷ []) ⌝ }
-{
-    if points::is_unknown_tag(tag) {
-        return refusals::POINT_TAG;
-    }
-    if length != points::value_length(tag) {
-        return refusals::POINT_LENGTH;
-    }
-    refusals::ACCEPTED
-}
+use values::points;
+use values::refusals;
 
 // A number that is not allowed, or not above the last one; the first point has none before it.
 pub fn number_refusal(number: &[u8], points: u32, last: [u8; 22]) -> u32
@@ -59,20 +44,6 @@ fn state_refusal(state: State) -> u32
     refusals::ACCEPTED
 }
 
-// A class, a baseline or a reading that is not allowed.
-pub fn value_refusal(tag: u8, value: &[u8]) -> u32
-    requires { ⌜ length (now value) ≡ sizeOf (kindOf tag) ⌝ }
-    ensures { λ r. ⌜ r ≡ firstOf ((isUnfit (kindOf tag) (now (value .entry)), 16) ∷ (hasLarge (kindOf tag) (now (value .entry)), 17) ∷ []) ⌝ }
-{
-    if points::is_unfit(tag, value) {
-        return refusals::CLASS_OR_BASELINE;
-    }
-    if points::has_large(tag, value) {
-        return refusals::READING;
-    }
-    refusals::ACCEPTED
-}
-
 // 9 to 17: all that is told before the days are chosen.
 pub fn early_refusal(state: State, tag: u8, value: &[u8], places: usize) -> u32
     ensures { λ r. ⌜ r ≡ earlyRefusal state tag (now (value .entry)) places ⌝ }
@@ -81,7 +52,7 @@ pub fn early_refusal(state: State, tag: u8, value: &[u8], places: usize) -> u32
     if standing != refusals::ACCEPTED {
         return standing;
     }
-    let form = form_refusal(tag, value.len());
+    let form = points::form_refusal(tag, value.len());
     if form != refusals::ACCEPTED {
         return form;
     }
@@ -94,5 +65,5 @@ pub fn early_refusal(state: State, tag: u8, value: &[u8], places: usize) -> u32
     if number != refusals::ACCEPTED {
         return number;
     }
-    value_refusal(tag, value)
+    points::value_refusal(tag, value)
 }

@@ -4,25 +4,14 @@ ghost use Rattle.ledger.specs.Operations.{openOf, addOf, placesOf, close
 
 pub mod adding;
 pub mod closing;
-pub mod heads;
-pub mod points;
-pub mod refusals;
-pub mod results;
 pub mod states;
+pub mod totals;
 
-// The values of a head (document 01, 'The test book').
-pub struct Head {
-    pub year: u16,
-    pub month: u8,
-    pub day: u8,
-    // s, the first slot of the window
-    pub slot: u8,
-    // low, high, extra-high, in hundredths of a percent
-    pub losses: [u16; 3],
-    // kW
-    pub contract: u32,
-    pub count: u32,
-}
+use values::Head;
+use values::heads;
+use values::points;
+use values::refusals;
+use values::results;
 
 // The settlement state. It goes in and comes back by value, and no field of it is trusted.
 pub struct State {
@@ -131,9 +120,9 @@ pub fn add(state: State, tag: u8, value: &[u8], places: &mut [i64]) -> Added
         };
     }
     let found = answer.found;
-    results::put(places, found);
-    let totals = state.totals;
-    let sums = results::add_totals(totals, found);
+    totals::put(places, found);
+    let before = state.totals;
+    let sums = totals::add_totals(before, found);
     let number = points::number_of(value);
     let mut next = state;
     next.points = state.points + 1;

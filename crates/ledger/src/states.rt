@@ -6,9 +6,9 @@ ghost use lib.Dec.{ltb};
 ghost use lib.IntN.{ℤ, natAbs};
 ghost use Rattle.numbers.specs.Lists.{any};
 ghost use Rattle.ledger.specs.States.{opened, noState, isUnsound};
-use crate::Head;
 use crate::State;
-use crate::heads;
+use values::Head;
+use values::heads;
 
 // The state that an accepted opening gives.
 pub fn opened_state(head: Head, marks: [u8; 30]) -> State

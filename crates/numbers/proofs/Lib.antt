@@ -8,3 +8,4 @@ pub mod Refusals
 pub mod Scanning
 pub mod Sums
 pub mod Tables
+pub mod Tests

@@ -1,7 +1,7 @@
 // The C interface: numbers and byte slices. include/tembuyas.h declares it.
 ghost use mathlib.Core.Path.{_≡_};
 ghost use lib.ListN.{length};
-ghost use Rattle.book.specs.Writing.{headWritingRefusal, headWritingOut, pointWritingRefusal, pointWritingOut};
+ghost use Rattle.fields.specs.Writing.{headWritingRefusal, headWritingOut, pointWritingRefusal, pointWritingOut};
 ghost use Rattle.book.specs.Settling.{settlingRefusal, settlingResult};
 
 // Settles a whole book into 64 result bytes.
@@ -17,7 +17,7 @@ pub extern "C" fn tembuyas_settle_book(book: &[u8], result: &mut [u8]) -> u32
 pub extern "C" fn tembuyas_write_head(head: &[u8], calendar: &[u8], out: &mut [u8]) -> u32
     ensures { λ r. ⌜ (r ≡ headWritingRefusal (now (head .entry)) (now (calendar .entry)) (length (now (out .entry)))) × (now (out .exit) ≡ headWritingOut (now (head .entry)) (now (calendar .entry)) (now (out .entry))) ⌝ }
 {
-    book::writing::write_head(head, calendar, out)
+    fields::writing::write_head(head, calendar, out)
 }
 
 // Writes a point's field.
@@ -25,5 +25,5 @@ pub extern "C" fn tembuyas_write_head(head: &[u8], calendar: &[u8], out: &mut [u
 pub extern "C" fn tembuyas_write_point(tag: u8, value: &[u8], out: &mut [u8]) -> u32
     ensures { λ r. ⌜ (r ≡ pointWritingRefusal tag (now (value .entry)) (length (now (out .entry)))) × (now (out .exit) ≡ pointWritingOut tag (now (value .entry)) (now (out .entry))) ⌝ }
 {
-    book::writing::write_point(tag, value, out)
+    fields::writing::write_point(tag, value, out)
 }

@@ -5,7 +5,7 @@ use Rattle.feeding.proofs.due.Statement.{statement}
 use Rattle.feeding.proofs.due.Tie as tie
 use Rattle.feeding.proofs.due.Reads as reads
 use Rattle.feeding.proofs.due.Lts as lts
-use Rattle.book.proofs.fields.length_due.Reads as length-due-reads
+use Rattle.fields.proofs.cutting.length_due.Reads as length-due-reads
 
 -- src/lib.rt:31:28
 enum-told : tie.Need-enum-told

@@ -3,13 +3,13 @@ use mathlib.Core.Path.{_≡_, sym, _∙_}
 use native.Mathlib.Omega.{arith}
 use borrow.Author.Tests.{eq-eqb, ne-eqb}
 use Rattle.feeding.specs.Feeding.{headerFed}
-use Rattle.book.proofs.Headers.{header-shows}
+use Rattle.fields.proofs.Headers.{header-shows}
 use borrow.Author.Needs.{needs}
 use Rattle.feeding.proofs.feed_header.Statement.{statement}
 use Rattle.feeding.proofs.feed_header.Tie as tie
 use Rattle.feeding.proofs.feed_header.Reads as reads
 use Rattle.feeding.proofs.feed_header.Lts as lts
-use Rattle.book.proofs.fields.header_refusal.Reads as header-refusal-reads
+use Rattle.fields.proofs.cutting.header_refusal.Reads as header-refusal-reads
 use Rattle.feeding.proofs.refused_at.Reads as refused-at-reads
 
 -- src/lib.rt:112:9

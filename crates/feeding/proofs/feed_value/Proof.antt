@@ -3,8 +3,8 @@ use mathlib.Core.Path.{_≡_, sym, ap, _∙_}
 use Prim.Native.Nat.{_-_, _≤_}
 use native.Mathlib.Omega.{arith}
 use lib.ListN.{length, take, length-take}
-use Rattle.book.specs.Fields.{lengthDue}
-use Rattle.book.specs.declared.Due.{Due}
+use Rattle.fields.specs.Fields.{lengthDue}
+use Rattle.fields.specs.declared.Due.{Due}
 use Rattle.feeding.specs.Feeding.{got}
 use Rattle.feeding.proofs.Values.{value-cut, value-from}
 use borrow.Author.Needs.{needs}
@@ -12,7 +12,7 @@ use Rattle.feeding.proofs.feed_value.Statement.{statement}
 use Rattle.feeding.proofs.feed_value.Tie as tie
 use Rattle.feeding.proofs.feed_value.Reads as reads
 use Rattle.feeding.proofs.feed_value.Lts as lts
-use Rattle.book.proofs.fields.length_due.Reads as length-due-reads
+use Rattle.fields.proofs.cutting.length_due.Reads as length-due-reads
 use Rattle.feeding.proofs.got_calendar.Reads as got-calendar-reads
 use Rattle.feeding.proofs.got_head.Reads as got-head-reads
 use Rattle.feeding.proofs.got_point.Reads as got-point-reads

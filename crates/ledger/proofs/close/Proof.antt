@@ -3,7 +3,7 @@ use mathlib.Core.Path.{_≡_, sym, _∙_}
 use borrow.Author.Tests.{lt-ltb, le-ltb}
 use Rattle.ledger.specs.Operations.{closingRefusal, closeOf}
 use Rattle.ledger.proofs.Sound.{sound}
-use Rattle.ledger.proofs.Totals.{total-small}
+use Rattle.ledger.proofs.TotalBounds.{total-small}
 use borrow.Author.Needs.{needs}
 use Rattle.ledger.proofs.close.Statement.{statement}
 use Rattle.ledger.proofs.close.Tie as tie

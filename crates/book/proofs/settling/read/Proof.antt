@@ -2,19 +2,19 @@
 use mathlib.Core.Path.{_≡_, sym, ap, _∙_}
 use Prim.Native.Nat.{_+_}
 use native.Mathlib.Omega.{arith}
-use Rattle.book.specs.Fields.{fieldOf, refusalOf}
+use Rattle.fields.specs.Fields.{fieldOf, refusalOf}
 use Rattle.book.specs.Endings.{refusedWith}
-use Rattle.book.specs.declared.Due.the-variants.{Head, Calendar}
-use Rattle.book.specs.declared.Field.the-variants.{Value}
-use Rattle.book.proofs.Cutting.{cut-within}
+use Rattle.fields.specs.declared.Due.the-variants.{Head, Calendar}
+use Rattle.fields.specs.declared.Field.the-variants.{Value}
+use Rattle.fields.proofs.Answers.{cut-within}
 use Rattle.book.proofs.Endings.{cut-here, cut-end, no-head, no-calendar, not-opened-here, was-opened-here}
 use borrow.Author.Needs.{needs}
 use Rattle.book.proofs.settling.read.Statement.{statement}
 use Rattle.book.proofs.settling.read.Tie as tie
 use Rattle.book.proofs.settling.read.Reads as reads
 use Rattle.book.proofs.settling.read.Lts as lts
-use Rattle.book.proofs.fields.cut.Reads as cut-reads
-use Rattle.book.proofs.fields.refusal_of.Reads as refusal-of-reads
+use Rattle.fields.proofs.cutting.cut.Reads as cut-reads
+use Rattle.fields.proofs.cutting.refusal_of.Reads as refusal-of-reads
 use Rattle.book.proofs.settling.read_points.Reads as read-points-reads
 use Rattle.book.proofs.settling.refused.Reads as refused-reads
 use Rattle.ledger.proofs.open.Reads as open-reads

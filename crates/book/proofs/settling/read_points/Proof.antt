@@ -4,18 +4,18 @@ use Prim.Native.Nat.{_≤_}
 use native.Mathlib.Omega.{arith}
 use lib.ListN.{length, drop}
 use borrow.Author.Needs.{needs}
-use Rattle.book.specs.Fields.{refusalOf}
+use Rattle.fields.specs.Fields.{refusalOf}
 use Rattle.book.specs.Reading.{readPoints}
 use Rattle.book.specs.Endings.{refusedWith, pointsEnding}
-use Rattle.book.specs.declared.Due.the-variants.{Point}
-use Rattle.book.specs.declared.Field.the-variants.{Value}
+use Rattle.fields.specs.declared.Due.the-variants.{Point}
+use Rattle.fields.specs.declared.Field.the-variants.{Value}
 use Rattle.book.proofs.Endings.{cut-here, cut-end, not-cut, stopped, went-on, bytes-behind, all-read}
 use Rattle.book.proofs.settling.read_points.Statement.{statement}
 use Rattle.book.proofs.settling.read_points.Tie as tie
 use Rattle.book.proofs.settling.read_points.Reads as reads
 use Rattle.book.proofs.settling.read_points.Lts as lts
-use Rattle.book.proofs.fields.cut.Reads as cut-reads
-use Rattle.book.proofs.fields.refusal_of.Reads as refusal-of-reads
+use Rattle.fields.proofs.cutting.cut.Reads as cut-reads
+use Rattle.fields.proofs.cutting.refusal_of.Reads as refusal-of-reads
 use Rattle.book.proofs.settling.refused.Reads as refused-reads
 use Rattle.ledger.proofs.add.Reads as add-reads
 

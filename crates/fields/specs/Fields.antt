@@ -1,0 +1,70 @@
+-- Fields (document 01, 'The test book'): 'tag of one byte, length of two bytes, value'. `left` is what is left of the book.
+use mathlib.Core.Bool.{Bool, true, false, cond, not, _&&_}
+use mathlib.Core.List.{List, [], _∷_, _++_}
+use Prim.Native.Nat.{ℕ, _+_}
+use lib.Dec.{ltb, eqb}
+use lib.ListN.{length, getD, take, drop}
+use Rattle.numbers.specs.Words.{word16, bytesOf}
+use Rattle.numbers.specs.Refusals.{firstOf}
+use Rattle.values.specs.Points.{kindOf, isUnknown, sizeOf}
+use Rattle.fields.specs.declared.Due.{Due}
+use Rattle.fields.specs.declared.Due.the-variants.{Head, Calendar, Point}
+use Rattle.fields.specs.declared.Field.{Field}
+use Rattle.fields.specs.declared.Field.the-variants.{Value, Refused}
+
+abbrev pub tagAt : List ℕ → ℕ
+tagAt left = getD left 0 0
+
+-- whether a tag may stand where a field is due
+abbrev pub isTag : Due → ℕ → Bool
+isTag Head tag = eqb tag 1
+isTag Calendar tag = eqb tag 2
+isTag Point tag = not (isUnknown (kindOf tag))
+
+-- the length that a value must have
+abbrev pub lengthDue : Due → ℕ → ℕ
+lengthDue Head tag = 17
+lengthDue Calendar tag = 30
+lengthDue Point tag = sizeOf (kindOf tag)
+
+abbrev pub isPoint : Due → Bool
+isPoint Head = false
+isPoint Calendar = false
+isPoint Point = true
+
+-- 20: no byte left where a point is due. 31: under three bytes left. 41: wrong tag for head or calendar; 11 for a point. 1 or 12: wrong
+-- length. 31: value cut.
+abbrev pub fieldTests : Due → List ℕ → List (Bool × ℕ)
+fieldTests due left =
+    (isPoint due && eqb (length left) 0, 20)
+    ∷ (ltb (length left) 3, 31)
+    ∷ (not (isTag due (tagAt left)), cond (isPoint due) 11 41)
+    ∷ (not (eqb (word16 left 1) (lengthDue due (tagAt left))), cond (isPoint due) 12 1)
+    ∷ (ltb (length left) (3 + lengthDue due (tagAt left)), 31)
+    ∷ []
+
+unfoldable pub fieldRefusal : Due → List ℕ → ℕ
+fieldRefusal due left = firstOf (fieldTests due left)
+
+-- THE FIELD ANSWER
+unfoldable pub fieldOf : Due → List ℕ → Field
+fieldOf due left =
+    cond (eqb (fieldRefusal due left) 0)
+    (Value (tagAt left) (lengthDue due (tagAt left)))
+    (Refused (fieldRefusal due left))
+
+-- its number
+abbrev pub refusalOf : Field → ℕ
+refusalOf (Value tag size) = 0
+refusalOf (Refused refusal) = refusal
+
+-- its value, 'the part of the book that begins there', and what is left behind it
+abbrev pub valueIn : ℕ → List ℕ → List ℕ
+valueIn size left = take size (drop 3 left)
+
+abbrev pub behind : ℕ → List ℕ → List ℕ
+behind size left = drop (3 + size) left
+
+-- a field as it is written
+abbrev pub written : ℕ → List ℕ → List ℕ
+written tag value = tag ∷ bytesOf 2 (length value) ++ value

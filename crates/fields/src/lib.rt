@@ -1,0 +1,17 @@
+// Fields: cutting one off the front of a book, and writing one.
+pub mod cutting;
+pub mod refusals;
+pub mod writing;
+
+// Which field is due at a place of the book.
+pub enum Due {
+    Head,
+    Calendar,
+    Point,
+}
+
+// The field answer: the tag and the length of the value, or the refusal that ends the reading.
+pub enum Field {
+    Value(u8, usize),
+    Refused(u32),
+}

@@ -1,0 +1,70 @@
+// Writing a head with its calendar, or a point, at the front of the lent bytes.
+ghost use mathlib.Core.Path.{_≡_};
+ghost use Prim.Native.Nat.{ℕ, _+_, _<_, _≤_};
+ghost use lib.ListN.{length};
+ghost use Rattle.fields.specs.Fields.{written};
+ghost use Rattle.fields.specs.Writing.{atFront, headWritingRefusal, headWritingOut, pointWritingRefusal, pointWritingOut};
+ghost use Rattle.fields.specs.WritingRows.{writingTold};
+use crate::refusals;
+
+// A field over the first of the lent bytes.
+fn put_field(tag: u8, value: &[u8], out: &mut [u8])
+    requires { ⌜ (length (now value) < 65536) × (3 + length (now value) ≤ length (now out)) ⌝ }
+    ensures { λ _. ⌜ now (out .exit) ≡ atFront (written tag (now (value .entry))) (now (out .entry)) ⌝ }
+{
+    let size = value.len();
+    let length = numbers::length_bytes(size as u16);
+    out[0] = tag;
+    out[1] = length[0];
+    out[2] = length[1];
+    let mut i: usize = 0;
+    while i < size {
+        out[3 + i] = value[i];
+        i += 1;
+    }
+}
+
+// A head with its calendar: 53 bytes.
+pub fn write_head(head: &[u8], calendar: &[u8], out: &mut [u8]) -> u32
+    ensures { λ r. ⌜ (r ≡ headWritingRefusal (now (head .entry)) (now (calendar .entry)) (length (now (out .entry)))) × (now (out .exit) ≡ headWritingOut (now (head .entry)) (now (calendar .entry)) (now (out .entry))) ⌝ }
+{
+    let refusal = values::heads::opening_refusal(head, calendar);
+    if refusal != values::refusals::ACCEPTED {
+        return refusal;
+    }
+    if out.len() < 53 {
+        return refusals::LENT_BYTES;
+    }
+    put_field(1, head, out);
+    put_field(2, calendar, &mut out[20..]);
+    values::refusals::ACCEPTED
+}
+
+// What is refused in a point before room is looked for: 11, 12, 14, 16, 17.
+fn point_refusal(tag: u8, value: &[u8]) -> u32
+    ensures { λ r. ⌜ r ≡ writingTold tag (now (value .entry)) ⌝ }
+{
+    let form = values::points::form_refusal(tag, value.len());
+    if form != values::refusals::ACCEPTED {
+        return form;
+    }
+    if !numbers::is_number(&value[0..22]) {
+        return values::refusals::POINT_NUMBER;
+    }
+    values::points::value_refusal(tag, value)
+}
+
+// A point's field.
+pub fn write_point(tag: u8, value: &[u8], out: &mut [u8]) -> u32
+    ensures { λ r. ⌜ (r ≡ pointWritingRefusal tag (now (value .entry)) (length (now (out .entry)))) × (now (out .exit) ≡ pointWritingOut tag (now (value .entry)) (now (out .entry))) ⌝ }
+{
+    let refusal = point_refusal(tag, value);
+    if refusal != values::refusals::ACCEPTED {
+        return refusal;
+    }
+    if out.len() < 3 + value.len() {
+        return refusals::LENT_BYTES;
+    }
+    put_field(tag, value, out);
+    values::refusals::ACCEPTED
+}

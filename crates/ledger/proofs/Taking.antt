@@ -1,0 +1,64 @@
+-- What an accepted adding shows, and how large its slot results are. Assumes nothing.
+use mathlib.Core.Path.{_≡_, refl}
+use mathlib.Core.Bool.{false, not, _&&_}
+use mathlib.Core.List.{List}
+use Prim.Native.Nat.{ℕ, _<_, _≤_}
+use lib.Dec.{T, ltb, eqb}
+use lib.IntN.{pos, natAbs}
+use lib.ListN.{length, getD, length-map}
+use mir.Facts.{eqb-yes}
+use borrow.Author.Tests.{ltb-false, leb-false}
+use Rattle.numbers.specs.Lists.{any}
+use Rattle.numbers.specs.PointNumbers.{isNumber, below}
+use Rattle.numbers.proofs.Filling.{any-none}
+use Rattle.numbers.proofs.Refusals.{clear}
+use Rattle.numbers.proofs.Tests.{no-false, noneOf, any-map}
+use Rattle.values.specs.Limits.{mostResult}
+use Rattle.values.specs.Points.{Kind, kindOf, isUnknown, sizeOf, numberOf, isUnfit, hasLarge, lacksDays, quotients, rounded, results}
+use Rattle.values.specs.declared.Head.{Head}
+use Rattle.values.proofs.Bounds.{passed, Opens, isBeyond, small-by, six-by}
+use Rattle.ledger.specs.Operations.{pointTests, pointRefusal}
+
+pub record Takes (h : Head) (marks : List ℕ) (points : ℕ) (last : List ℕ) (kind : Kind) (value : List ℕ) (places : ℕ) : Type 0 where
+  pub room : points < h .count
+  pub known : isUnknown kind ≡ false
+  pub size : length value ≡ sizeOf kind
+  pub six : places ≡ 6
+  pub number : T (isNumber (numberOf value))
+  pub above : (ltb 0 points && not (below last (numberOf value))) ≡ false
+  pub fit : isUnfit kind value ≡ false
+  pub small : hasLarge kind value ≡ false
+  pub days : lacksDays h marks kind value ≡ false
+
+module _ (h : Head) (marks : List ℕ) (points : ℕ) (last : List ℕ) (tag : ℕ) (value : List ℕ) (places : ℕ) where
+  pub takes : pointRefusal h marks points last tag value places ≡ 0 → Takes h marks points last (kindOf tag) value places
+  unfolding pointRefusal
+  takes e =
+      let c = clear (pointTests h marks points last tag value places) tt e in
+      record {
+        room = leb-false (h .count) points (c .0);
+        known = c .1 .0;
+        size = eqb-yes (passed (eqb (length value) (sizeOf (kindOf tag))) (c .1 .1 .0));
+        six = eqb-yes (passed (eqb places 6) (c .1 .1 .1 .0));
+        number = passed (isNumber (numberOf value)) (c .1 .1 .1 .1 .0);
+        above = c .1 .1 .1 .1 .1 .0;
+        fit = c .1 .1 .1 .1 .1 .1 .0;
+        small = c .1 .1 .1 .1 .1 .1 .1 .0;
+        days = c .1 .1 .1 .1 .1 .1 .1 .1 .0;
+      }
+
+module _ {h : Head} {marks : List ℕ} {points : ℕ} {last : List ℕ} {kind : Kind} {value : List ℕ} {places : ℕ}
+    (t : Takes h marks points last kind value places) where
+  pub six-quotients : length (quotients h marks kind value) ≡ 6
+  six-quotients = six-by h marks kind value (t .known)
+
+  pub six-results : length (results h marks kind value) ≡ 6
+  six-results = simp length-map six-quotients
+
+  -- each slot result is within the limit
+  module _ (o : Opens h) where
+    pub results-small : T (noneOf (isBeyond mostResult) (results h marks kind value))
+    results-small = rw any-map (small-by h marks o kind value (t .fit) (t .small))
+
+    pub result-small : (j : ℕ) → natAbs (getD (results h marks kind value) j (pos 0)) ≤ mostResult
+    result-small j = ltb-false _ _ (any-none (isBeyond mostResult) (pos 0) refl (results h marks kind value) (no-false _ results-small) j)

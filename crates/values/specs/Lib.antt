@@ -1,0 +1,4 @@
+pub mod Limits
+pub mod Heads
+pub mod Points
+pub mod Steps
