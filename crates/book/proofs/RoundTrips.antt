@@ -12,11 +12,11 @@ use lib.ListN.{length}
 use mir.Facts.{and-yes, yes-and}
 use Rattle.numbers.specs.Lists.{gather}
 use Rattle.numbers.specs.PointNumbers.{below}
-use Rattle.numbers.proofs.Refusals.{Clear, clear, clear-zero}
+use Rattle.numbers.proofs.Refusals.{testOf, untold, clear-zero}
 use Rattle.values.specs.Heads.{headOf}
 use Rattle.values.specs.Points.{Point, kindOf, isUnknown, numberOf, lacksDays}
-use Rattle.ledger.specs.States.{opened, isUnsound, taken}
-use Rattle.ledger.specs.Operations.{pointTests, pointRefusal, addingRefusal, resultsOf, addOf}
+use Rattle.ledger.specs.States.{opened, taken}
+use Rattle.ledger.specs.Operations.{pointTests, pointRefusal, addingTests, addingRefusal, resultsOf, addOf}
 use Rattle.values.specs.declared.Head.{Head}
 use Rattle.ledger.specs.declared.State.{State}
 use Rattle.values.proofs.Bounds.{opening-lengths}
@@ -78,9 +78,9 @@ is-false : (b : Bool) → T (not b) → b ≡ false
 is-false true t = absurd t
 is-false false t = refl
 
-takes-clear : (p : Point) → Takes p → Clear (pointWritingTests (p .tag) (p .value) (roomFor p))
+writing-untold : (p : Point) → Takes p → (n : ℕ) → testOf n (pointWritingTests (p .tag) (p .value) (roomFor p)) ≡ false
 unfolding pointWritingRefusal
-takes-clear p e = clear (pointWritingTests (p .tag) (p .value) (roomFor p)) tt e
+writing-untold p e = untold (pointWritingTests (p .tag) (p .value) (roomFor p)) tt e
 
 -- a point that is written is taken, where it follows and shows its days
 module _ (state : State) (s : Sound state) (p : Point) (takes : Takes p) (shows : ShowsDays (state .head) (state .marks) p) where
@@ -88,9 +88,9 @@ module _ (state : State) (s : Sound state) (p : Point) (takes : Takes p) (shows 
       → pointRefusal (state .head) (state .marks) (state .points) (state .last) (p .tag) (p .value) 6 ≡ 0
   unfolding pointRefusal
   point-back room above =
-      let c = takes-clear p takes in
+      let c = writing-untold p takes in
       clear-zero (pointTests (state .head) (state .marks) (state .points) (state .last) (p .tag) (p .value) 6)
-      (lt-leb _ _ room, (c .0, (c .1 .0, (refl, (c .1 .1 .0, (above, (c .1 .1 .1 .0, (c .1 .1 .1 .1 .0, (is-false _ shows, tt)))))))))
+      (lt-leb _ _ room, (c 11, (c 12, (refl, (c 14, (above, (c 16, (c 17, (is-false _ shows, tt)))))))))
 
 points-back : (points : List Point) (state : State) → Sound state → state .points + length points ≡ state .head .count
     → T (follows (state .points) (state .last) points) → Each Takes points → Each (ShowsDays (state .head) (state .marks)) points
@@ -100,12 +100,12 @@ points-back [] state s n f t d = (record { points = []; state = state }, refl, r
 points-back (p ∷ points) state s n f t d =
     let above = follows-above (state .points) (state .last) p points f in
     let e = point-back state s p (t .0) (d .0) (omega arith) above in
-    let c = takes-clear p (t .0) in
+    let c = writing-untold p (t .0) in
     let next = taken state (resultsOf state (p .tag) (p .value)) (numberOf (p .value)) in
     let r = points-back points next (taken-sound state s (p .tag) (p .value) 6 e) (omega arith) (follows-next (state .points) (state .last) p points f) (t .1) (d .1) in (
       before p (r .0),
       rw (
-        reads-field due.Point (p .tag) (p .value) (writtenPoints points) (eqb-true _ _ (not-false _ (c .1 .0))) (ap not (c .0)),
+        reads-field due.Point (p .tag) (p .value) (writtenPoints points) (eqb-true _ _ (not-false _ (c 12))) (ap not (c 11)),
         add-good state (p .tag) (p .value) 6 (adding-sound state s (p .tag) (p .value) 6 ∙ e),
         r .1,
       ),
@@ -120,19 +120,17 @@ record Were (state : State) (n : ℕ) (left : List ℕ) (points : List Point) : 
   pub takes : Each Takes points
   pub shows : Each (ShowsDays (state .head) (state .marks)) points
 
-adding-clear : (state : State) (p : Point) → addOf state (p .tag) (p .value) 6 .refusal ≡ 0
-    → Clear ((isUnsound state, 9) ∷ pointTests (state .head) (state .marks) (state .points) (state .last) (p .tag) (p .value) 6)
+adding-untold : (state : State) (p : Point) → addOf state (p .tag) (p .value) 6 .refusal ≡ 0
+    → (n : ℕ) → testOf n (addingTests state (p .tag) (p .value) 6) ≡ false
 unfolding addingRefusal
-adding-clear state p e =
-    clear ((isUnsound state, 9) ∷ pointTests (state .head) (state .marks) (state .points) (state .last) (p .tag) (p .value) 6) tt
-    (sym (add-refusal state (p .tag) (p .value) 6) ∙ e)
+adding-untold state p e = untold (addingTests state (p .tag) (p .value) 6) tt (sym (add-refusal state (p .tag) (p .value) 6) ∙ e)
 
 takes-back : (state : State) (p : Point) → addOf state (p .tag) (p .value) 6 .refusal ≡ 0 → Takes p
 unfolding pointWritingRefusal
 takes-back state p e =
-    let c = adding-clear state p e .1 .1 in
+    let c = adding-untold state p e in
     clear-zero (pointWritingTests (p .tag) (p .value) (roomFor p))
-    (c .0, (c .1 .0, (c .1 .1 .1 .0, (c .1 .1 .1 .1 .1 .0, (c .1 .1 .1 .1 .1 .1 .0, (le-ltb (roomFor p) (3 + length (p .value)) (omega arith), tt))))))
+    (c 11, (c 12, (c 14, (c 16, (c 17, (le-ltb (roomFor p) (3 + length (p .value)) (omega arith), tt))))))
 
 points-were : {n : ℕ} {state : State} {left : List ℕ} {x : Points} → Bytes left → Points-read n state left x → Were state n left (x .points)
 unfolding gather taken
@@ -140,16 +138,16 @@ points-were {state} {left = []} b (none e) = record { same = refl; count = refl;
 points-were {left = a ∷ left} b (none e) = absurd (omega arith)
 points-were {state} {left} b (more {part} {rest} cut e read) =
     let p = part .point in
-    let c = adding-clear state p e .1 in
+    let c = adding-untold state p e in
     let w = was-written due.Point left part b cut in
     let is = ap (λ a. a .state) (add-good state (p .tag) (p .value) 6 (sym (add-refusal state (p .tag) (p .value) 6) ∙ e)) in
     let i = rw is at (points-were (w .bytes) read) in
     record {
       same = ap (λ bytes. written (p .tag) (p .value) ++ bytes) (i .same) ∙ w .same;
       count = ap suc (i .count);
-      rising = follows-more (state .points) (state .last) p (rest .points) (c .1 .1 .1 .1 .1 .0) (i .rising);
+      rising = follows-more (state .points) (state .last) p (rest .points) (c 15) (i .rising);
       takes = (takes-back state p e, i .takes);
-      shows = (rw (c .1 .1 .1 .1 .1 .1 .1 .1 .0) tt, i .shows);
+      shows = (rw (c 18) tt, i .shows);
     }
 
 -- ---- whole books

@@ -9,7 +9,7 @@ use lib.Dec.{eqb}
 use lib.ListN.{length, drop}
 use Rattle.numbers.specs.Refusals.{firstOf}
 use Rattle.numbers.specs.PointNumbers.{isNumber}
-use Rattle.numbers.proofs.Refusals.{clear, told, passed}
+use Rattle.numbers.proofs.Refusals.{untold, told, passed}
 use Rattle.values.specs.Points.{kindOf, sizeOf, numberOf}
 use Rattle.values.proofs.PointRows.{formRows, valueRows}
 use Rattle.fields.specs.Fields.{written}
@@ -53,7 +53,7 @@ module _ (tag : ℕ) (value : List ℕ) where
       pub told-small : length value < 65536
       unfolding writingTold
       told-small =
-          let size : length value ≡ sizeOf (kindOf tag) = eqb-true _ _ (not-false _ (clear (writingRows tag value) tt e .1 .0)) in
+          let size : length value ≡ sizeOf (kindOf tag) = eqb-true _ _ (not-false _ (untold (writingRows tag value) tt e 12)) in
           omega (arith, kind-small (kindOf tag))
 
       room-next : pointWritingRefusal tag value (length out) ≡ firstOf (drop 5 (pointWritingTests tag value (length out)))

@@ -9,7 +9,7 @@ use lib.IntN.{ℤ, pos, natAbs}
 use lib.ListN.{length, getD, replicate}
 use borrow.Author.Tests.{leb-false, eqb-true, not-false, eq-eqb, ne-eqb}
 use Rattle.numbers.specs.Refusals.{firstOf}
-use Rattle.numbers.proofs.Refusals.{Clear, clear, told, passed}
+use Rattle.numbers.proofs.Refusals.{testOf, untold, told, passed}
 use Rattle.values.specs.Heads.{contentRefusal}
 use Rattle.values.specs.Points.{Kind, kindOf, isUnknown, sizeOf, isUnfit, hasLarge, lacksDays, results}
 use Rattle.ledger.specs.Operations.{pointRefusal, addingRefusal, placesOf, resultsOf}
@@ -64,30 +64,30 @@ module _ (state : State) (tag : ℕ) (value : List ℕ) (places : ℕ) where
     pub days-passed : lacksDays (state .head) (state .marks) (kindOf tag) value ≡ false → addingRefusal state tag value places ≡ 0
     days-passed e = early-passed ∙ simp e
 
-    rows : Clear (earlyTests state tag value places)
+    row : (n : ℕ) → testOf n (earlyTests state tag value places) ≡ false
     unfolding earlyRefusal
-    rows = clear (earlyTests state tag value places) tt early
+    row = untold (earlyTests state tag value places) tt early
 
     pub early-sound : Sound state
-    early-sound = sound state (rows .0)
+    early-sound = sound state (row 9)
 
     pub early-room : state .points < state .head .count
-    early-room = leb-false _ _ (rows .1 .0)
+    early-room = leb-false _ _ (row 10)
 
     pub early-known : isUnknown (kindOf tag) ≡ false
-    early-known = rows .1 .1 .0
+    early-known = row 11
 
     pub early-length : length value ≡ sizeOf (kindOf tag)
-    early-length = eqb-true _ _ (not-false _ (rows .1 .1 .1 .0))
+    early-length = eqb-true _ _ (not-false _ (row 12))
 
     pub early-six : places ≡ 6
-    early-six = eqb-true _ _ (not-false _ (rows .1 .1 .1 .1 .0))
+    early-six = eqb-true _ _ (not-false _ (row 13))
 
     pub early-fit : isUnfit (kindOf tag) value ≡ false
-    early-fit = rows .1 .1 .1 .1 .1 .1 .1 .0
+    early-fit = row 16
 
     pub early-small : hasLarge (kindOf tag) value ≡ false
-    early-small = rows .1 .1 .1 .1 .1 .1 .1 .1 .0
+    early-small = row 17
 
     -- every point has its number
     pub numbered : 22 ≤ length value

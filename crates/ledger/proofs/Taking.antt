@@ -11,7 +11,7 @@ use borrow.Author.Tests.{ltb-false, leb-false}
 use Rattle.numbers.specs.Lists.{any}
 use Rattle.numbers.specs.PointNumbers.{isNumber, below}
 use Rattle.numbers.proofs.Filling.{any-none}
-use Rattle.numbers.proofs.Refusals.{clear}
+use Rattle.numbers.proofs.Refusals.{untold}
 use Rattle.numbers.proofs.Tests.{no-false, noneOf, any-map}
 use Rattle.values.specs.Limits.{mostResult}
 use Rattle.values.specs.Points.{Kind, kindOf, isUnknown, sizeOf, numberOf, isUnfit, hasLarge, lacksDays, quotients, rounded, results}
@@ -34,17 +34,17 @@ module _ (h : Head) (marks : List ℕ) (points : ℕ) (last : List ℕ) (tag : �
   pub takes : pointRefusal h marks points last tag value places ≡ 0 → Takes h marks points last (kindOf tag) value places
   unfolding pointRefusal
   takes e =
-      let c = clear (pointTests h marks points last tag value places) tt e in
+      let c = untold (pointTests h marks points last tag value places) tt e in
       record {
-        room = leb-false (h .count) points (c .0);
-        known = c .1 .0;
-        size = eqb-yes (passed (eqb (length value) (sizeOf (kindOf tag))) (c .1 .1 .0));
-        six = eqb-yes (passed (eqb places 6) (c .1 .1 .1 .0));
-        number = passed (isNumber (numberOf value)) (c .1 .1 .1 .1 .0);
-        above = c .1 .1 .1 .1 .1 .0;
-        fit = c .1 .1 .1 .1 .1 .1 .0;
-        small = c .1 .1 .1 .1 .1 .1 .1 .0;
-        days = c .1 .1 .1 .1 .1 .1 .1 .1 .0;
+        room = leb-false (h .count) points (c 10);
+        known = c 11;
+        size = eqb-yes (passed (eqb (length value) (sizeOf (kindOf tag))) (c 12));
+        six = eqb-yes (passed (eqb places 6) (c 13));
+        number = passed (isNumber (numberOf value)) (c 14);
+        above = c 15;
+        fit = c 16;
+        small = c 17;
+        days = c 18;
       }
 
 module _ {h : Head} {marks : List ℕ} {points : ℕ} {last : List ℕ} {kind : Kind} {value : List ℕ} {places : ℕ}

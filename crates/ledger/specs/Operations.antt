@@ -43,9 +43,12 @@ unfoldable pub pointRefusal : Head → List ℕ → ℕ → List ℕ → ℕ →
 pointRefusal h marks points last tag value places = firstOf (pointTests h marks points last tag value places)
 
 -- 9 to 18, for a tag, a value and the number of places lent
+abbrev pub addingTests : State → ℕ → List ℕ → ℕ → List (Bool × ℕ)
+addingTests state tag value places =
+    (isUnsound state, 9) ∷ pointTests (state .head) (state .marks) (state .points) (state .last) tag value places
+
 unfoldable pub addingRefusal : State → ℕ → List ℕ → ℕ → ℕ
-addingRefusal state tag value places =
-    firstOf ((isUnsound state, 9) ∷ pointTests (state .head) (state .marks) (state .points) (state .last) tag value places)
+addingRefusal state tag value places = firstOf (addingTests state tag value places)
 
 -- the results of a value for a state
 abbrev pub resultsOf : State → ℕ → List ℕ → List ℤ

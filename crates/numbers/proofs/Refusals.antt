@@ -4,7 +4,7 @@ use mathlib.Core.List.{List, [], _∷_, _++_}
 use mathlib.Core.Path.{_≡_, refl}
 use Prim.Native.Nat.{ℕ, _<_}
 use native.Mathlib.Omega.{arith}
-use lib.Dec.{T, ltb, ltb→lt}
+use lib.Dec.{T, ltb, eqb, ltb→lt}
 use mir.Facts.{and-yes}
 use Rattle.numbers.specs.Refusals.{firstOf}
 
@@ -31,6 +31,23 @@ clear (row ∷ rows) k e = go (row .0) (row .1) refl k e (clear rows)
         → (T (numbered rows) → firstOf rows ≡ 0 → Clear rows) → (row .0 ≡ false) × Clear rows
     go true n p k e f = let h : 0 < n = ltb→lt 0 n (and-yes (ltb 0 n) (numbered rows) k .0) in absurd (omega arith)
     go false n p k e f = (p, f (and-yes (ltb 0 n) (numbered rows) k .1) e)
+
+-- the test that tells a number: the first row that has it
+abbrev pub testOf : ℕ → List (Bool × ℕ) → Bool
+testOf n [] = false
+testOf n (row ∷ rows) = cond (eqb n (row .1)) (row .0) (testOf n rows)
+
+-- where the table tells 0, none of its numbers is told, wherever it stands
+pub untold : (rows : List (Bool × ℕ)) → T (numbered rows) → firstOf rows ≡ 0 → (n : ℕ) → testOf n rows ≡ false
+untold rows k e n = go rows (clear rows k e)
+  where
+    pick : (here : Bool) (a b : Bool) → a ≡ false → b ≡ false → cond here a b ≡ false
+    pick true a b p q = p
+    pick false a b p q = q
+
+    go : (rows : List (Bool × ℕ)) → Clear rows → testOf n rows ≡ false
+    go [] c = refl
+    go (row ∷ rows) c = pick (eqb n (row .1)) (row .0) (testOf n rows) (c .0) (go rows (c .1))
 
 pub clear-zero : (rows : List (Bool × ℕ)) → Clear rows → firstOf rows ≡ 0
 clear-zero [] k = refl

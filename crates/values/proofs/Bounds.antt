@@ -14,13 +14,13 @@ use Rattle.numbers.specs.Lists.{any}
 use Rattle.numbers.proofs.Filling.{run-length, any-none}
 use Rattle.numbers.proofs.Differences.{⊖s}
 use Rattle.numbers.proofs.Floors.{natAbs-floor, slot-bound}
-use Rattle.numbers.proofs.Refusals.{Clear, clear, clear-zero}
+use Rattle.numbers.proofs.Refusals.{testOf, untold, clear-zero}
 use Rattle.baseline.specs.Readings.{mostReading, firstLarge, daySums, earlierUse}
 use Rattle.baseline.specs.Baseline.{chosenDays, baseline}
 use Rattle.baseline.proofs.Large.{none-large, first-bound}
 use Rattle.baseline.proofs.Bounds.{reading-bound, earlier-use-bound, day-sums-bound, chosen-days-back, chosen-days-four}
 use Rattle.values.specs.Limits.{mostLoss, mostPoints, mostBaseline, mostResult}
-use Rattle.values.specs.Heads.{headOf, contentTests, contentRefusal, openingRefusal, testDay}
+use Rattle.values.specs.Heads.{headOf, contentTests, contentRefusal, openingTests, openingRefusal, testDay}
 use Rattle.values.specs.Points.{Kind, consumer, generator, unknown, isUnknown, isUnfit, hasLarge, readingsOf, readingCount, lossOf, baselineOf, consumerQuotient, generatorQuotient, quotients, rounded}
 use Rattle.values.specs.declared.Head.{Head}
 use Rattle.numbers.proofs.Tests.{noneOf, none-run}
@@ -44,30 +44,32 @@ pub record Opens (h : Head) : Type 0 where
 pub opens : (h : Head) (marks : List ℕ) → contentRefusal h marks ≡ 0 → Opens h
 unfolding contentRefusal
 opens h marks e =
-    let c = clear (contentTests h marks) tt e in
-    let slots = both (leb 18 (h .slot)) (leb (h .slot) 34) (c .1 .1 .0) in
-    let points = both (leb 1 (h .count)) (leb (h .count) mostPoints) (c .1 .1 .1 .1 .1 .0) in
+    let c = untold (contentTests h marks) tt e in
+    let slots = both (leb 18 (h .slot)) (leb (h .slot) 34) (c 4) in
+    let points = both (leb 1 (h .count)) (leb (h .count) mostPoints) (c 7) in
     record {
       first-slot = leb-yes (slots .0);
       last-slot = leb-yes (slots .1);
-      losses = λ i. ltb-false _ _ (any-none (λ loss. ltb mostLoss loss) 0 refl (h .losses) (c .1 .1 .1 .0) i);
+      losses = λ i. ltb-false _ _ (any-none (λ loss. ltb mostLoss loss) 0 refl (h .losses) (c 5) i);
       some-points = leb-yes (points .0);
       most-points = leb-yes (points .1);
     }
 
 module _ (head calendar : List ℕ) (accepted : openingRefusal head calendar ≡ 0) where
-  opening-clear : Clear ((not (eqb (length head) 17 && eqb (length calendar) 30), 1) ∷ contentTests (headOf head) calendar)
+  opening-untold : (n : ℕ) → testOf n (openingTests head calendar) ≡ false
   unfolding openingRefusal
-  opening-clear = clear ((not (eqb (length head) 17 && eqb (length calendar) 30), 1) ∷ contentTests (headOf head) calendar) tt accepted
+  opening-untold = untold (openingTests head calendar) tt accepted
 
   pub opening-lengths : (length head ≡ 17) × (length calendar ≡ 30)
   opening-lengths =
-      let t = both (eqb (length head) 17) (eqb (length calendar) 30) (opening-clear .0) in
+      let t = both (eqb (length head) 17) (eqb (length calendar) 30) (opening-untold 1) in
       (eqb-yes (t .0), eqb-yes (t .1))
 
   pub opening-content : contentRefusal (headOf head) calendar ≡ 0
   unfolding contentRefusal
-  opening-content = clear-zero (contentTests (headOf head) calendar) (opening-clear .1)
+  opening-content =
+      let c = opening-untold in
+      clear-zero (contentTests (headOf head) calendar) (c 2, (c 3, (c 4, (c 5, (c 6, (c 7, (c 8, tt)))))))
 
 -- 17 was not told
 pub all-tested : (kind : Kind) (value : List ℕ) → hasLarge kind value ≡ false → firstLarge (readingsOf kind value) (readingCount kind) ≡ readingCount kind

@@ -9,7 +9,7 @@ use lib.ListN.{length, take, drop, replicate}
 use borrow.Author.Tests.{not-false, ne-eqb}
 use Rattle.numbers.specs.Lists.{run}
 use Rattle.numbers.proofs.Parts.{rest-of}
-use Rattle.numbers.proofs.Refusals.{clear}
+use Rattle.numbers.proofs.Refusals.{untold}
 use Rattle.calendar.specs.Dates.{isDate}
 use Rattle.baseline.specs.Readings.{reading, daySums, earlierUse}
 use Rattle.baseline.specs.Baseline.{chosenDays, baseline}
@@ -24,7 +24,7 @@ use Rattle.values.proofs.SlotResults.{map-run}
 
 pub date-is : (h : Head) (marks : List ℕ) → contentRefusal h marks ≡ 0 → isDate (h .year) (h .month) (h .day) ≡ true
 unfolding contentRefusal
-date-is h marks e = not-false _ (clear (contentTests h marks) tt e .0)
+date-is h marks e = not-false _ (untold (contentTests h marks) tt e 2)
 
 -- a known tag that is not 3
 pub generator-kind : (tag : ℕ) → (tag ≡ 3 → ⊥) → isUnknown (kindOf tag) ≡ false → kindOf tag ≡ generator

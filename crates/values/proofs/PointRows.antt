@@ -8,7 +8,7 @@ use lib.Dec.{eqb}
 use lib.ListN.{length}
 use borrow.Author.Tests.{eqb-true, not-false}
 use Rattle.numbers.specs.Refusals.{firstOf}
-use Rattle.numbers.proofs.Refusals.{clear}
+use Rattle.numbers.proofs.Refusals.{untold}
 use Rattle.values.specs.Points.{Kind, consumer, generator, unknown, kindOf, isUnknown, sizeOf, isUnfit, hasLarge}
 
 abbrev pub formRows : ℕ → List ℕ → List (Bool × ℕ)
@@ -25,8 +25,8 @@ known-length unknown e = absurd (let z : _≡_ {A = ℕ} 0 1 = cc in omega arith
 
 module _ (tag : ℕ) (value : List ℕ) (form : firstOf (formRows tag value) ≡ 0) where
   pub right-length : length value ≡ sizeOf (kindOf tag)
-  right-length = eqb-true _ _ (not-false _ (clear (formRows tag value) tt form .1 .0))
+  right-length = eqb-true _ _ (not-false _ (untold (formRows tag value) tt form 12))
 
   -- every point has its number
   pub long-enough : 22 ≤ length value
-  long-enough = omega (arith, right-length, known-length (kindOf tag) (clear (formRows tag value) tt form .0))
+  long-enough = omega (arith, right-length, known-length (kindOf tag) (untold (formRows tag value) tt form 11))

@@ -44,6 +44,8 @@ unfoldable pub contentRefusal : Head → List ℕ → ℕ
 contentRefusal h marks = firstOf (contentTests h marks)
 
 -- 1 to 8, on the bytes of a head and of a calendar, whose bytes are the marks
+abbrev pub openingTests : List ℕ → List ℕ → List (Bool × ℕ)
+openingTests head calendar = (not (eqb (length head) 17 && eqb (length calendar) 30), 1) ∷ contentTests (headOf head) calendar
+
 unfoldable pub openingRefusal : List ℕ → List ℕ → ℕ
-openingRefusal head calendar =
-    firstOf ((not (eqb (length head) 17 && eqb (length calendar) 30), 1) ∷ contentTests (headOf head) calendar)
+openingRefusal head calendar = firstOf (openingTests head calendar)
