@@ -5,8 +5,8 @@ use Prim.Native.Nat.{ℕ, zero, suc, _+_, _*_, _<_, _≤_}
 use native.Mathlib.Nat.{zero-add, add-zero, add-suc, suc-add, add-assoc, suc-mul, mul-suc}
 use native.Mathlib.Numerals.{add-one}
 use native.Mathlib.Omega.{arith}
-use lib.ListN.{length, getD, take}
-use lib.Seq.{take-suc, take-all}
+use lib.ListN.{length, getD, take, drop, drop-of-length-le}
+use lib.Seq.{take-suc, take-all, drop-cons}
 use Rattle.numbers.specs.Lists.{run, sum}
 use Rattle.numbers.proofs.Filling.{sum-more}
 
@@ -43,6 +43,15 @@ module _ (f : ℕ → ℕ) where
 
   pub sum-take : (days : List ℕ) (i : ℕ) → i < length days → sum (map f (take (i + 1) days)) ≡ sum (map f (take i days)) + f (getD days i 0)
   sum-take days i h = rw (add-one, take-suc days i 0) (sum-days (take i days) (getD days i 0))
+
+  -- the days from a place on
+  pub sum-drop : (days : List ℕ) (i : ℕ) → i < length days → sum (map f (drop i days)) ≡ f (getD days i 0) + sum (map f (drop (i + 1) days))
+  unfolding sum
+  sum-drop days i h = rw (add-one, drop-cons days i 0 h)
+
+  pub sum-drop-end : (days : List ℕ) (i : ℕ) → length days ≤ i → sum (map f (drop i days)) ≡ 0
+  unfolding sum
+  sum-drop-end days i h = rw (drop-of-length-le days {i = i} h)
 
   -- how large a sum over some days is
   pub days-within : (b : ℕ) (days : List ℕ) → ((i : ℕ) → i < length days → f (getD days i 0) ≤ b) → sum (map f days) ≤ b * length days

@@ -85,31 +85,28 @@ module _ {sums : List ℕ} {eligible : List Bool} {days : List ℕ} {count all k
     pub five-rising : Rising 0 k days
     five-rising = rw all-five at (here .rising)
 
-    abbrev kept : List ℕ
-    kept = filter (λ d. not (ltb (ofDay sums d * 20) all)) days
+    pub five-total : all ≡ sum (map (ofDay sums) days)
+    five-total = rw all-five at (here .total)
 
-    kept-round : kept ≡ round (ofDay sums) days
-    kept-round = ap (λ a. filter (λ d. not (ltb (ofDay sums d * 20) a)) days) (rw all-five at (here .total))
+    pub five-held : Holds (ofDay sums) days (record { days = days; count = count; all = all })
+    five-held = record { places = here .places; count = omega arith; held = all-five; all = five-total }
 
-    module _ {left : Round} (holds : Holds (ofDay sums) kept left) where
-      left-count : left .count ≡ length (round (ofDay sums) days)
-      left-count = holds .count ∙ ap length kept-round
-
+    module _ {left : Round} (holds : Holds (ofDay sums) (round (ofDay sums) days) left) where
       same-five : standing (ofDay sums) (daysFrom 1 eligible) ≡ standing (ofDay sums) (days ++ further eligible k)
       same-five = rw all-five at (here .same)
 
       pub stopped : left .count ≡ 5
-          → Holds (ofDay sums) (standing (ofDay sums) (daysFrom 1 eligible)) (record { days = days; count = count; all = all })
+          → Holds (ofDay sums) (standing (ofDay sums) (daysFrom 1 eligible)) (record { days = days; count = left .count; all = all })
       stopped e =
-          let s = same-five ∙ none-dropped (ofDay sums) days (further eligible k) (here .places) (sym left-count ∙ e) in
-          rw s (record { places = here .places; count = omega arith; held = all-five; all = rw all-five at (here .total) })
+          let s = same-five ∙ none-dropped (ofDay sums) days (further eligible k) (here .places) (sym (holds .count) ∙ e) in
+          rw s (record { places = here .places; count = omega arith; held = take-all (left .count) days (omega arith); all = five-total })
 
       pub went-on : (left .count ≡ 5 → ⊥) → Here sums eligible (left .days) (left .count) (left .all) k
       went-on n = record {
         places = holds .places;
-        few = omega (arith, left-count, round-length (ofDay sums) days);
+        few = omega (arith, holds .count, round-length (ofDay sums) days);
         total = rw (holds .held) (holds .all);
         rising = rw (holds .held) (rising-filter _ five-rising);
-        same = rw (holds .held, kept-round)
-            (same-five ∙ some-dropped (ofDay sums) days (further eligible k) (here .places) (λ q. n (left-count ∙ q)));
+        same = rw (holds .held)
+            (same-five ∙ some-dropped (ofDay sums) days (further eligible k) (here .places) (λ q. n (holds .count ∙ q)));
       }

@@ -6,7 +6,7 @@ ghost use lib.Dec.{ltb, eqb};
 ghost use lib.ListN.{length, getD, drop};
 ghost use Rattle.numbers.specs.Lists.{filter};
 ghost use Rattle.calendar.specs.Eligible.{ofDay};
-ghost use Rattle.baseline.specs.Choosing.{standing, lowest, chosen};
+ghost use Rattle.baseline.specs.Choosing.{round, standing, lowest, chosen};
 ghost use Rattle.baseline.specs.Days.{daysFrom, Rising, Holds, choice};
 
 // The four days, nearest first, or four zeros where there are not enough.
@@ -23,21 +23,25 @@ struct Round {
 }
 
 // Of five days, those that a round does not drop. All its tests use the same five sums together, `all`.
-fn keep(days: [usize; 5], sums: &[u64], all: u64) -> Round
-    requires { ⌜ (length (now sums) ≡ 30) × ((k : ℕ) → getD (now sums) k 0 ≤ 6_000_000_000) × Rising 0 30 days ⌝ }
-    ensures { λ r. ⌜ Holds (ofDay (now (sums .entry))) (filter (λ k. not (ltb (ofDay (now (sums .entry)) k * 20) all)) days) r ⌝ }
+fn keep(five: Round, sums: &[u64]) -> Round
+    requires { ⌜ (length (now sums) ≡ 30) × ((k : ℕ) → getD (now sums) k 0 ≤ 6_000_000_000) × Rising 0 30 (five .days) × Holds (ofDay (now sums)) (five .days) five ⌝ }
+    ensures { λ r. ⌜ Holds (ofDay (now (sums .entry))) (round (ofDay (now (sums .entry))) (five .days)) r ⌝ }
 {
+    let days = five.days;
+    let all = five.all;
+    let taken = five.count;
     let mut kept = [0usize; 5];
     let mut count: usize = 0;
-    let mut left: u64 = 0;
+    let mut left = all;
     let mut i: usize = 0;
-    while i < 5 {
+    while i < taken {
         let day = days[i];
         let sum = sums[day - 1];
         if all <= sum * 20 {
             kept[count] = day;
             count += 1;
-            left += sum;
+        } else {
+            left -= sum;
         }
         i += 1;
     }
@@ -54,12 +58,14 @@ fn walk(eligible: [bool; 30], sums: &[u64]) -> Round
     ensures { λ r. ⌜ Holds (ofDay (now (sums .entry))) (standing (ofDay (now (sums .entry))) (daysFrom 1 eligible)) r ⌝ }
 {
     let mut days = [0usize; 5];
-    let mut count: usize = 0;
     let mut all: u64 = 0;
+    let mut stood: usize = 0;
     let mut k: usize = 0;
     'walk: loop {
+        let mut count = stood;
         while count < 5 {
             if 30 <= k {
+                stood = count;
                 break 'walk;
             }
             if eligible[k] {
@@ -69,17 +75,21 @@ fn walk(eligible: [bool; 30], sums: &[u64]) -> Round
             }
             k += 1;
         }
-        let left = keep(days, sums, all);
-        let stood = left.count;
+        let five = Round { days, count, all };
+        let left = keep(five, sums);
+        stood = left.count;
         if stood == 5 {
             break 'walk;
         }
         let next = left.days;
         days = next;
-        count = stood;
         all = left.all;
     }
-    Round { days, count, all }
+    Round {
+        days,
+        count: stood,
+        all,
+    }
 }
 
 // The day with the lowest window sum; among equals the farthest.

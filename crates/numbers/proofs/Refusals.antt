@@ -1,7 +1,7 @@
 -- Tables of refusals: one that tells 0 has no test that fits, and back. Assumes nothing.
 use mathlib.Core.Bool.{Bool, true, false, cond, _&&_, _||_, true≢false}
 use mathlib.Core.List.{List, [], _∷_, _++_}
-use mathlib.Core.Path.{_≡_, refl}
+use mathlib.Core.Path.{_≡_, refl, sym, _∙_}
 use Prim.Native.Nat.{ℕ, _<_}
 use native.Mathlib.Omega.{arith}
 use lib.Dec.{T, ltb, eqb, ltb→lt}
@@ -48,6 +48,15 @@ untold rows k e n = go rows (clear rows k e)
     go : (rows : List (Bool × ℕ)) → Clear rows → testOf n rows ≡ false
     go [] c = refl
     go (row ∷ rows) c = pick (eqb n (row .1)) (row .0) (testOf n rows) (c .0) (go rows (c .1))
+
+-- rows that stand in a larger table, wherever they do
+abbrev pub Within : List (Bool × ℕ) → List (Bool × ℕ) → Type 0
+Within [] table = Unit {0}
+Within (row ∷ rows) table = (testOf (row .1) table ≡ row .0) × Within rows table
+
+pub within : (rows table : List (Bool × ℕ)) → Within rows table → ((n : ℕ) → testOf n table ≡ false) → Clear rows
+within [] table w c = tt
+within (row ∷ rows) table w c = (sym (w .0) ∙ c (row .1), within rows table (w .1) c)
 
 pub clear-zero : (rows : List (Bool × ℕ)) → Clear rows → firstOf rows ≡ 0
 clear-zero [] k = refl

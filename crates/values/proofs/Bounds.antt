@@ -14,7 +14,7 @@ use Rattle.numbers.specs.Lists.{any}
 use Rattle.numbers.proofs.Filling.{run-length, any-none}
 use Rattle.numbers.proofs.Differences.{⊖s}
 use Rattle.numbers.proofs.Floors.{natAbs-floor, slot-bound}
-use Rattle.numbers.proofs.Refusals.{testOf, untold, clear-zero}
+use Rattle.numbers.proofs.Refusals.{testOf, untold, Within, within, clear-zero}
 use Rattle.baseline.specs.Readings.{mostReading, firstLarge, daySums, earlierUse}
 use Rattle.baseline.specs.Baseline.{chosenDays, baseline}
 use Rattle.baseline.proofs.Large.{none-large, first-bound}
@@ -68,8 +68,9 @@ module _ (head calendar : List ℕ) (accepted : openingRefusal head calendar ≡
   pub opening-content : contentRefusal (headOf head) calendar ≡ 0
   unfolding contentRefusal
   opening-content =
-      let c = opening-untold in
-      clear-zero (contentTests (headOf head) calendar) (c 2, (c 3, (c 4, (c 5, (c 6, (c 7, (c 8, tt)))))))
+      let rows = contentTests (headOf head) calendar in
+      let w : Within rows (openingTests head calendar) = (refl, (refl, (refl, (refl, (refl, (refl, (refl, tt))))))) in
+      clear-zero rows (within rows (openingTests head calendar) w opening-untold)
 
 -- 17 was not told
 pub all-tested : (kind : Kind) (value : List ℕ) → hasLarge kind value ≡ false → firstLarge (readingsOf kind value) (readingCount kind) ≡ readingCount kind

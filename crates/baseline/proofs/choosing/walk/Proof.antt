@@ -6,21 +6,21 @@ use Prim.Native.Nat.{_≤_, _<_, _-_, _+_}
 use native.Mathlib.Omega.{arith}
 use borrow.Author.Needs.{needs}
 use Rattle.baseline.proofs.Rising.{rising-farther}
-use Rattle.baseline.proofs.Walking.{Here, begin, bounded, taken, passed, ran-out, five-rising, stopped, went-on}
+use Rattle.baseline.proofs.Walking.{Here, begin, bounded, taken, passed, ran-out, five-rising, five-held, stopped, went-on}
 use Rattle.baseline.proofs.choosing.walk.Statement.{statement}
 use Rattle.baseline.proofs.choosing.walk.Tie as tie
 
 abbrev Inv-loop : tie.InvT-loop
-Inv-loop sums eligible days₀ count₀ all₀ k₀ days count all k = (k ≤ 30) × (count + k₀ ≤ count₀ + k) × Here sums eligible days count all k
+Inv-loop sums eligible days₀ all₀ stood₀ k₀ count₀ days all stood k count = (k ≤ 30) × (count + k₀ ≤ count₀ + k) × Here sums eligible days count all k
 
 abbrev μ-loop : tie.MeasureT-loop
-μ-loop sums eligible days₀ count₀ all₀ k₀ days count all k = 30 - k
+μ-loop sums eligible days₀ all₀ stood₀ k₀ count₀ days all stood k count = 30 - k
 
 abbrev Inv-walk : tie.InvT-walk
-Inv-walk sums eligible days₀ count₀ all₀ k₀ days count all k = (k ≤ 30) × (count < 5) × Here sums eligible days count all k
+Inv-walk sums eligible days₀ all₀ stood₀ k₀ days all stood k = (k ≤ 30) × (stood < 5) × Here sums eligible days stood all k
 
 abbrev μ-walk : tie.MeasureT-walk
-μ-walk sums eligible days₀ count₀ all₀ k₀ days count all k = 30 - k
+μ-walk sums eligible days₀ all₀ stood₀ k₀ days all stood k = 30 - k
 
 walk-holds : tie.Need-walk-holds Inv-loop μ-loop Inv-walk μ-walk
 walk-holds c = (search needs, search needs, begin _ _ _ refl)
@@ -73,7 +73,7 @@ keep-requires : tie.Need-keep-requires Inv-loop μ-loop Inv-walk μ-walk
 keep-requires c κs =
     let s = c .before .before .before .before in
     let l = c .before .loop in
-    (s .pre .0, s .pre .1, rising-farther (l .inv .0) (five-rising (l .inv .2) (omega arith)))
+    (s .pre .0, s .pre .1, rising-farther (l .inv .0) (five-rising (l .inv .2) (omega arith)), five-held (l .inv .2) (omega arith))
 
 walk-less : tie.Need-walk-less Inv-loop μ-loop Inv-walk μ-walk
 walk-less c = omega arith
