@@ -10,6 +10,7 @@ mod report;
 mod settlings;
 mod timing;
 
+use std::hint::black_box;
 use std::path::{Path, PathBuf};
 use std::process::ExitCode;
 
@@ -19,26 +20,36 @@ use timing::Times;
 
 /// Points of the books.
 const SIZES: [u32; 4] = [1_000, 2_500, 5_000, 10_000];
-/// Each size takes about the same time: smaller books have more turns.
-const TURNS_TIMES_POINTS: u32 = 250_000;
-/// Turns of settle_book and `cat`.
-const PROGRAM_TURNS: usize = 25;
+/// A turn goes through so many points, whatever the size of the books: a book that stayed in the cache from turn to
+/// turn could not be compared with one that does not fit there.
+const POINTS_OF_A_TURN: u32 = 10_000;
+const TURNS: usize = 25;
 
-/// The three passes over a book of a kind, in turns.
+/// Times one of the passes over every book.
+fn pass<T>(times: &mut Times, shelf: &[Vec<u8>], settle: fn(&[u8]) -> T) {
+    times.add(|| {
+        for book in shelf {
+            black_box(settle(book));
+        }
+    });
+}
+
+/// The three passes over books of a kind, in turns.
 fn measure(kind: &Kind, points: u32) -> Result<Measured, String> {
     let list = (kind.list)(points);
     books::check(kind, &list)?;
     let book = list.book();
     settlings::check(&book)?;
+    let shelf = vec![book; (POINTS_OF_A_TURN / points) as usize];
     let [mut proved, mut separate, mut plain] = [(); 3].map(|()| Times::default());
-    for _ in 0..TURNS_TIMES_POINTS / points {
-        proved.add(|| settlings::proved(&book));
-        separate.add(|| settlings::separate(&book));
-        plain.add(|| settlings::plain(&book));
+    for _ in 0..TURNS {
+        pass(&mut proved, &shelf, settlings::proved);
+        pass(&mut separate, &shelf, settlings::separate);
+        pass(&mut plain, &shelf, settlings::plain);
     }
     Ok(Measured {
+        books: shelf.len(),
         points,
-        bytes: book.len(),
         proved,
         separate,
         plain,
@@ -58,12 +69,13 @@ fn measure_kind(kind: &Kind, sizes: &[u32]) -> Result<Vec<Measured>, String> {
 }
 
 /// settle_book beside `cat` on the largest ordinary book.
-fn measure_program(settle_book: &Path, folder: &Path) -> Result<f64, String> {
+fn measure_program(settle_book: &Path, folder: &Path) -> Result<(), String> {
     let path = folder.join("ordinary.book");
     let book = (ORDINARY.list)(SIZES[3]).book();
     std::fs::write(&path, &book).map_err(|error| format!("{}: {error}", path.display()))?;
-    let (settling, copying) = program::beside_cat(settle_book, &path, PROGRAM_TURNS)?;
-    Ok(report::print_program(book.len(), &settling, &copying))
+    let (settling, copying) = program::beside_cat(settle_book, &path, TURNS)?;
+    report::print_program(book.len(), &settling, &copying);
+    Ok(())
 }
 
 /// The peak memory of settle_book for the smallest and the largest ordinary book, in kB.

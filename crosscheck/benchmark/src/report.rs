@@ -3,10 +3,10 @@
 use crate::books::Kind;
 use crate::timing::Times;
 
-/// The times of one book.
+/// The times of some books of one size.
 pub struct Measured {
+    pub books: usize,
     pub points: u32,
-    pub bytes: usize,
     pub proved: Times,
     pub separate: Times,
     pub plain: Times,
@@ -15,10 +15,10 @@ pub struct Measured {
 /// Prints the head of a table of books.
 pub fn head_of_table(kind: &Kind) {
     println!();
-    println!("{} book: ns a point, best (median), and ratios of the best", kind.name);
+    println!("{} books: ns a point, best turn (median turn), and ratios of the best", kind.name);
     println!(
-        "{:>7} {:>6} {:>17} {:>17} {:>17} {:>11} {:>9}",
-        "points", "MB", "proved", "separate", "plain", "of separate", "of plain"
+        "{:>5} {:>9} {:>13} {:>13} {:>13} {:>15} {:>12}",
+        "books", "of points", "proved", "separate", "plain", "proved/separate", "proved/plain"
     );
 }
 
@@ -31,19 +31,23 @@ impl Measured {
         self.proved.best() / self.plain.best()
     }
 
+    fn all_points(&self) -> f64 {
+        self.books as f64 * f64::from(self.points)
+    }
+
     /// The proved ledger's time for a point, in ns.
     fn for_a_point(&self) -> f64 {
-        self.proved.best() / f64::from(self.points)
+        self.proved.best() / self.all_points()
     }
 
     /// Prints a line of the table.
     pub fn print(&self) {
-        let points = f64::from(self.points);
+        let points = self.all_points();
         let cell = |times: &Times| format!("{:.0} ({:.0})", times.best() / points, times.median() / points);
         println!(
-            "{:>7} {:>6.1} {:>17} {:>17} {:>17} {:>11.3} {:>9.3}",
+            "{:>5} {:>9} {:>13} {:>13} {:>13} {:>15.3} {:>12.3}",
+            self.books,
             self.points,
-            self.bytes as f64 / 1e6,
             cell(&self.proved),
             cell(&self.separate),
             cell(&self.plain),
@@ -53,14 +57,13 @@ impl Measured {
     }
 }
 
-/// Prints the times of settle_book and `cat`, and gives their ratio.
-pub fn print_program(bytes: usize, settling: &Times, copying: &Times) -> f64 {
+/// Prints the times of settle_book and `cat`.
+pub fn print_program(bytes: usize, settling: &Times, copying: &Times) {
     let ratio = settling.best() / copying.best();
     let cell = |times: &Times| format!("{:.1} ({:.1})", times.best() / 1e6, times.median() / 1e6);
     println!();
     println!("settle_book beside cat, {:.1} MB from a file: ms, best (median)", bytes as f64 / 1e6);
     println!("settle_book {}, cat {}, ratio {ratio:.2}", cell(settling), cell(copying));
-    ratio
 }
 
 /// Prints the memory of settle_book for two sizes.
