@@ -42,7 +42,12 @@ fn one_packed(readings: &[u8], i: usize) -> u32
     ensures { λ r. ⌜ (r % 256 < 32 → firstLarge (drop (i * 4) (now (readings .entry))) 1 ≡ 1) ⌝ }
 {
     let at = i * 4;
-    turned(readings[at], readings[at + 1], readings[at + 2], readings[at + 2 + 1])
+    turned(
+        readings[at],
+        readings[at + 1],
+        readings[at + 2],
+        readings[at + 2 + 1],
+    )
 }
 
 // Two numbers side by side.
