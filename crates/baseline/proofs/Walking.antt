@@ -17,7 +17,7 @@ use Rattle.baseline.proofs.Rising.{rising-farther, rising-append, risin
 use Rattle.baseline.proofs.Flags.{further, further-yes, further-no, further-end}
 use Rattle.baseline.proofs.Keeping.{put-day}
 use Rattle.baseline.proofs.Sums.{sum-days, days-within}
-use Rattle.baseline.proofs.Rounds.{round-length, days-run-out, none-dropped, some-dropped}
+use Rattle.baseline.proofs.Rounds.{round-length, filter-all, days-run-out, none-dropped, some-dropped}
 
 -- Before place k: the first `count` of the five places hold the days in hand. Those that stand in the end are those that stand of the
 -- days in hand and the further ones.
@@ -98,11 +98,14 @@ module _ {sums : List ℕ} {eligible : List Bool} {days : List ℕ} {count all k
       same-five : standing (ofDay sums) (daysFrom 1 eligible) ≡ standing (ofDay sums) (days ++ further eligible k)
       same-five = rw all-five at (here .same)
 
+      -- the five are still in their places
       pub stopped : left .count ≡ 5
-          → Holds (ofDay sums) (standing (ofDay sums) (daysFrom 1 eligible)) (record { days = days; count = count; all = all })
+          → Holds (ofDay sums) (standing (ofDay sums) (daysFrom 1 eligible)) (record { days = left .days; count = count; all = all })
       stopped e =
           let s = same-five ∙ none-dropped (ofDay sums) days (further eligible k) (here .places) (sym left-count ∙ e) in
-          rw s (record { places = here .places; count = omega arith; held = all-five; all = rw all-five at (here .total) })
+          let none : kept ≡ days = filter-all _ days (omega (arith, holds .count)) in
+          let five : count ≡ left .count = omega (arith, here .few) in
+          rw s (record { places = holds .places; count = omega arith; held = rw five (holds .held ∙ none); all = rw all-five at (here .total) })
 
       pub went-on : (left .count ≡ 5 → ⊥) → Here sums eligible (left .days) (left .count) (left .all) k
       went-on n = record {

@@ -7,7 +7,7 @@ ghost use lib.ListN.{length, getD, drop};
 ghost use Rattle.numbers.specs.Lists.{filter};
 ghost use Rattle.calendar.specs.Eligible.{ofDay};
 ghost use Rattle.baseline.specs.Choosing.{standing, lowest, chosen};
-ghost use Rattle.baseline.specs.Days.{daysFrom, Rising, Holds, choice};
+ghost use Rattle.baseline.specs.Days.{daysFrom, Rising, Holds, roundOf, choice};
 
 // The four days, nearest first, or four zeros where there are not enough.
 pub struct Chosen {
@@ -22,12 +22,17 @@ struct Round {
     all: u64,
 }
 
-// Of five days, those that a round does not drop. All its tests use the same five sums together, `all`.
-fn keep(days: [usize; 5], sums: &[u64], all: u64) -> Round
-    requires { ⌜ (length (now sums) ≡ 30) × ((k : ℕ) → getD (now sums) k 0 ≤ 6_000_000_000) × Rising 0 30 days ⌝ }
-    ensures { λ r. ⌜ Holds (ofDay (now (sums .entry))) (filter (λ k. not (ltb (ofDay (now (sums .entry)) k * 20) all)) days) r ⌝ }
+// What a round leaves: how many days, and their window sums together.
+struct Left {
+    count: usize,
+    all: u64,
+}
+
+// Of five days, those that a round does not drop come to the front. All its tests use the same five sums together, `all`.
+fn keep(days: &mut [usize], sums: &[u64], all: u64) -> Left
+    requires { ⌜ (length (now sums) ≡ 30) × ((k : ℕ) → getD (now sums) k 0 ≤ 6_000_000_000) × (length (now days) ≡ 5) × Rising 0 30 (now days) ⌝ }
+    ensures { λ r. ⌜ Holds (ofDay (now (sums .entry))) (filter (λ k. not (ltb (ofDay (now (sums .entry)) k * 20) all)) (now (days .entry))) (roundOf (now (days .exit)) r) ⌝ }
 {
-    let mut kept = [0usize; 5];
     let mut count: usize = 0;
     let mut left: u64 = 0;
     let mut i: usize = 0;
@@ -35,17 +40,13 @@ fn keep(days: [usize; 5], sums: &[u64], all: u64) -> Round
         let day = days[i];
         let sum = sums[day - 1];
         if all <= sum * 20 {
-            kept[count] = day;
+            days[count] = day;
             count += 1;
             left += sum;
         }
         i += 1;
     }
-    Round {
-        days: kept,
-        count,
-        all: left,
-    }
+    Left { count, all: left }
 }
 
 // Rounds over the thirty days, until one drops no day or the days run out. A round goes on with the days that the one before it left.
@@ -69,13 +70,11 @@ fn walk(eligible: [bool; 30], sums: &[u64]) -> Round
             }
             k += 1;
         }
-        let left = keep(days, sums, all);
+        let left = keep(&mut days, sums, all);
         let stood = left.count;
         if stood == 5 {
             break 'walk;
         }
-        let next = left.days;
-        days = next;
         count = stood;
         all = left.all;
     }
