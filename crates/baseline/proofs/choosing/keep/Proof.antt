@@ -104,7 +104,7 @@ loop-again c =
     let here : getD (l .days) (l .i) 0 ≡ d = same-here (l .days) days (l .i) (l .inv .3) in
     ⊎-elim
     (λ w.
-    let high : s .args .all ≤ ofDay sums d * 20 = rw here at (w .0 .taken) in
+    let high : s .args .all ≤ ofDay sums d * 20 = omega (arith, rw here at (w .0 .taken)) in
     let more = keep-yes test days (l .i) (omega arith) (simp (le-ltb _ _ high)) in (
       omega arith,
       omega arith,
@@ -115,7 +115,7 @@ loop-again c =
       w .3 ∙ rw (here, l .inv .6, more) (sym (sum-days (ofDay sums) held d)),
     ))
     (λ w.
-    let low : ofDay sums d * 20 < s .args .all = rw here at (w .0 .left) in
+    let low : ofDay sums d * 20 < s .args .all = omega (arith, rw here at (w .0 .left)) in
     let same = keep-no test days (l .i) (omega arith) (simp (lt-ltb _ _ low)) in (
       omega arith,
       omega arith,
