@@ -1,8 +1,6 @@
-//! Links the archive that `rt staticlib tembuyas` writes.
+#[path = "../archive.rs"]
+mod archive;
 
 fn main() {
-    let folder = concat!(env!("CARGO_MANIFEST_DIR"), "/../../target/staticlib");
-    println!("cargo:rustc-link-search=native={folder}");
-    println!("cargo:rustc-link-lib=static=tembuyas");
-    println!("cargo:rerun-if-changed={folder}/libtembuyas.a");
+    archive::link();
 }

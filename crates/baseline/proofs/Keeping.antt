@@ -4,9 +4,10 @@ use mathlib.Core.Bool.{Bool, true, false}
 use mathlib.Core.List.{List, [], _∷_, _++_, append-nil}
 use Prim.Native.Nat.{ℕ, _+_, _<_, _≤_}
 use native.Mathlib.Numerals.{add-one}
+use native.Mathlib.Nat.{add-zero}
 use native.Mathlib.Omega.{arith}
 use lib.ListN.{length, getD, set, take, drop, length-append, take-append-drop}
-use lib.Seq.{take-suc, take-suc-set}
+use lib.Seq.{take-suc, take-suc-set, drop-drop, drop-set-lt, getD-drop}
 use Rattle.numbers.specs.Lists.{filter}
 use Rattle.numbers.proofs.Filling.{filter-append}
 
@@ -33,3 +34,14 @@ keep-room test days i h e =
 -- one day more in the first places of an array
 pub put-day : (places held : List ℕ) (n d : ℕ) → n < length places → take n places ≡ held → take (n + 1) (set places n d) ≡ held ++ d ∷ []
 put-day places held n d h e = rw (add-one, ← e) (take-suc-set places n d h)
+
+-- An array whose places from i on are still those of another one. Places before them may be written.
+module _ (places before : List ℕ) (i : ℕ) (same : drop i places ≡ drop i before) where
+  pub same-here : getD places i 0 ≡ getD before i 0
+  same-here = simp (getD-drop, add-zero) at (ap (λ xs. getD xs 0 0) same)
+
+  pub same-further : drop (i + 1) places ≡ drop (i + 1) before
+  same-further = sym (drop-drop 1 i places) ∙ ap (drop 1) same ∙ drop-drop 1 i before
+
+  pub same-written : (n d : ℕ) → n ≤ i → drop (i + 1) (set places n d) ≡ drop (i + 1) before
+  same-written n d h = drop-set-lt (i + 1) places n d (omega arith) ∙ same-further

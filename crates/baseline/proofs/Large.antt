@@ -1,5 +1,5 @@
 -- The first reading that is too large. Assumes nothing.
-use mathlib.Core.Path.{_≡_, refl, ap, _∙_}
+use mathlib.Core.Path.{_≡_, refl, sym, ap, _∙_}
 use mathlib.Core.Bool.{Bool, true, false, cond}
 use mathlib.Core.List.{List}
 use Prim.Native.Nat.{ℕ, zero, suc, _+_, _-_, _*_, _<_, _≤_}
@@ -11,6 +11,19 @@ use lib.Seq.{drop-drop, getD-drop}
 use borrow.Author.Tests.{ne-eqb, lt-ltb, le-ltb, ltb-true, ltb-false}
 use Rattle.numbers.specs.Words.{word32}
 use Rattle.baseline.specs.Readings.{mostReading, firstLarge}
+
+pub first-bound : (readings : List ℕ) (n : ℕ) → firstLarge readings n ≤ n
+unfolding firstLarge
+first-bound readings zero = omega arith
+first-bound readings (suc n) = go (ltb mostReading (word32 readings 0)) (first-bound (drop 4 readings) n)
+  where
+    go : (t : Bool) → firstLarge (drop 4 readings) n ≤ n → cond t 0 (suc (firstLarge (drop 4 readings) n)) ≤ suc n
+    go true h = omega arith
+    go false h = omega arith
+
+-- no reading is found, so that none is too large
+pub none-found : (readings : List ℕ) (n : ℕ) → n ≤ firstLarge readings n → firstLarge readings n ≡ n
+none-found readings n h = omega (arith, first-bound readings n)
 
 module _ (readings : List ℕ) where
   word-from : (at : ℕ) → word32 (drop at readings) 0 ≡ word32 readings at
@@ -49,6 +62,18 @@ module _ (readings : List ℕ) where
   pub join : (k n i : ℕ) → from i k ≡ k → from (i + k) n ≡ n → from i (k + n) ≡ k + n
   join k n i e f = pass-all k i n e ∙ ap (λ m. k + m) f
 
+  -- one that is found among the first k
+  found-within : (k i n : ℕ) → from i k < k → from i (k + n) ≡ from i k
+  found-within zero i n h = absurd (omega arith)
+  found-within (suc k) i n h = go (ltb mostReading (word32 readings (i * 4))) refl (found-within k (i + 1) n)
+    where
+      go : (t : Bool) → ltb mostReading (word32 readings (i * 4)) ≡ t → (from (i + 1) k < k → from (i + 1) (k + n) ≡ from (i + 1) k)
+          → from i (suc k + n) ≡ from i (suc k)
+      go true p r = let l = ltb-true _ _ p in rw suc-add (stop i (k + n) l ∙ sym (stop i k l))
+      go false p r =
+          let l = ltb-false _ _ p in
+          rw suc-add (pass i (k + n) l ∙ ap suc (r (omega (arith, pass i k l))) ∙ sym (pass i k l))
+
   -- a loop's turn: what is left of n readings
   module _ (i n : ℕ) where
     pub left-pass : (k : ℕ) → i + k ≤ n → from i k ≡ k → i + from i (n - i) ≡ i + k + from (i + k) (n - (i + k))
@@ -58,6 +83,19 @@ module _ (readings : List ℕ) where
 
     pub left-stop : i < n → mostReading < word32 readings (i * 4) → i + from i (n - i) ≡ i
     left-stop h l = let m : n - i ≡ suc (n - i - 1) = omega arith in rw (m, stop i (n - i - 1) l) (add-zero i)
+
+    -- a loop's turn that looks at k readings one by one
+    pub left-none-in : (k found : ℕ) → found ≡ i + from i (i + k - i) → i + k ≤ found → from i k ≡ k
+    left-none-in k found e h =
+        let m : i + k - i ≡ k = omega arith in
+        none-found (drop (i * 4) readings) k (omega (arith, rw m at e))
+
+    pub left-found-in : (k found : ℕ) → found ≡ i + from i (i + k - i) → found < i + k → i + k ≤ n → i + from i (n - i) ≡ found
+    left-found-in k found e h l =
+        let m : i + k - i ≡ k = omega arith in
+        let f : found ≡ i + from i k = rw m at e in
+        let t : n - i ≡ k + (n - (i + k)) = omega arith in
+        rw (t, found-within k i (n - (i + k)) (omega arith)) (omega arith)
 
     pub left-none : n ≤ i → i + from i (n - i) ≡ i
     unfolding firstLarge
@@ -81,16 +119,3 @@ module _ (readings : List ℕ) where
   -- WHAT NO TOO LARGE READING MEANS: each is within the limit.
   pub none-large : (n i : ℕ) → firstLarge readings n ≡ n → i < n → word32 readings (i * 4) ≤ mostReading
   none-large n i e h = rw zero-add at (in-limit n 0 i e h)
-
-pub first-bound : (readings : List ℕ) (n : ℕ) → firstLarge readings n ≤ n
-unfolding firstLarge
-first-bound readings zero = omega arith
-first-bound readings (suc n) = go (ltb mostReading (word32 readings 0)) (first-bound (drop 4 readings) n)
-  where
-    go : (t : Bool) → firstLarge (drop 4 readings) n ≤ n → cond t 0 (suc (firstLarge (drop 4 readings) n)) ≤ suc n
-    go true h = omega arith
-    go false h = omega arith
-
--- no reading is found, so that none is too large
-pub none-found : (readings : List ℕ) (n : ℕ) → n ≤ firstLarge readings n → firstLarge readings n ≡ n
-none-found readings n h = omega (arith, first-bound readings n)

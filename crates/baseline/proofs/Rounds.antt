@@ -1,5 +1,5 @@
 -- The walk, round by round. Assumes nothing.
-use mathlib.Core.Path.{_≡_, refl, _∙_}
+use mathlib.Core.Path.{_≡_, refl, ap, _∙_}
 use mathlib.Core.Bool.{Bool, true, false, cond}
 use mathlib.Core.List.{List, [], _∷_, _++_}
 use Prim.Native.Nat.{ℕ, zero, suc, _<_, _≤_}
@@ -21,6 +21,18 @@ filter-length test (k ∷ days) = go (test k) (filter-length test days)
     go : (t : Bool) → length (filter test days) ≤ length days → length (cond t (k ∷ filter test days) (filter test days)) ≤ suc (length days)
     go true h = omega arith
     go false h = omega arith
+
+-- a test that all pass
+pub filter-all : (test : ℕ → Bool) (days : List ℕ) → length (filter test days) ≡ length days → filter test days ≡ days
+unfolding filter
+filter-all test [] e = refl
+filter-all test (k ∷ days) e = go (test k) (filter-all test days) (filter-length test days) e
+  where
+    go : (t : Bool) → (length (filter test days) ≡ length days → filter test days ≡ days) → length (filter test days) ≤ length days
+        → length (cond t (k ∷ filter test days) (filter test days)) ≡ suc (length days)
+        → cond t (k ∷ filter test days) (filter test days) ≡ k ∷ days
+    go true r h q = ap (λ xs. k ∷ xs) (r (omega arith))
+    go false r h q = absurd (omega arith)
 
 module _ (w : ℕ → ℕ) where
   pub round-length : (five : List ℕ) → length (round w five) ≤ length five

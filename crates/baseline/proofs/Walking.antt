@@ -17,7 +17,7 @@ use Rattle.baseline.proofs.Rising.{rising-farther, rising-append, risin
 use Rattle.baseline.proofs.Flags.{further, further-yes, further-no, further-end}
 use Rattle.baseline.proofs.Keeping.{put-day}
 use Rattle.baseline.proofs.Sums.{sum-days, days-within}
-use Rattle.baseline.proofs.Rounds.{round-length, days-run-out, none-dropped, some-dropped}
+use Rattle.baseline.proofs.Rounds.{round-length, filter-all, days-run-out, none-dropped, some-dropped}
 
 -- Before place k: the first `count` of the five places hold the days in hand. Those that stand in the end are those that stand of the
 -- days in hand and the further ones.
@@ -95,11 +95,13 @@ module _ {sums : List ℕ} {eligible : List Bool} {days : List ℕ} {count all k
       same-five : standing (ofDay sums) (daysFrom 1 eligible) ≡ standing (ofDay sums) (days ++ further eligible k)
       same-five = rw all-five at (here .same)
 
+      -- the five are still in their places
       pub stopped : left .count ≡ 5
-          → Holds (ofDay sums) (standing (ofDay sums) (daysFrom 1 eligible)) (record { days = days; count = left .count; all = all })
+          → Holds (ofDay sums) (standing (ofDay sums) (daysFrom 1 eligible)) (record { days = left .days; count = left .count; all = all })
       stopped e =
           let s = same-five ∙ none-dropped (ofDay sums) days (further eligible k) (here .places) (sym (holds .count) ∙ e) in
-          rw s (record { places = here .places; count = omega arith; held = take-all (left .count) days (omega arith); all = five-total })
+          let none : round (ofDay sums) days ≡ days = filter-all _ days (omega (arith, holds .count)) in
+          rw s (record { places = holds .places; count = omega arith; held = holds .held ∙ none; all = five-total })
 
       pub went-on : (left .count ≡ 5 → ⊥) → Here sums eligible (left .days) (left .count) (left .all) k
       went-on n = record {

@@ -7,6 +7,7 @@ use lib.Dec.{ltb}
 use lib.ListN.{length, getD, take, replicate}
 use Rattle.numbers.specs.Lists.{sum}
 use Rattle.baseline.specs.declared.choosing.Round.{Round}
+use Rattle.baseline.specs.declared.choosing.Hand.{Hand}
 use Rattle.baseline.specs.declared.choosing.Chosen.{Chosen}
 
 -- the days with a flag, of flags that begin with day k back
@@ -29,6 +30,10 @@ pub record Holds (w : ℕ → ℕ) (days : List ℕ) (r : Round) : Type 0 where
   pub count : r .count ≡ length days
   pub held : take (r .count) (r .days) ≡ days
   pub all : r .all ≡ sum (map w days)
+
+-- the days in hand, in their places
+abbrev pub roundOf : List ℕ → Hand → Round
+roundOf days hand = record { days = days; count = hand .count; all = hand .all }
 
 -- the answer on the chosen days: four, or fewer (refusal 18)
 unfoldable pub choice : List ℕ → Chosen

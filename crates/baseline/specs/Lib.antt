@@ -2,3 +2,4 @@ pub mod Readings
 pub mod Choosing
 pub mod Baseline
 pub mod Days
+pub mod Packed

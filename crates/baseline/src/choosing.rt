@@ -1,13 +1,13 @@
 // Choosing four days. A day is its number back; the window sum of day k stands at place k - 1 of `sums`.
 ghost use mathlib.Core.Path.{_≡_};
 ghost use mathlib.Core.Bool.{not};
-ghost use Prim.Native.Nat.{ℕ, _≤_, _*_};
-ghost use lib.Dec.{ltb, eqb};
+ghost use Prim.Native.Nat.{ℕ, _≤_};
+ghost use lib.Dec.{eqb};
 ghost use lib.ListN.{length, getD, drop};
 ghost use Rattle.numbers.specs.Lists.{filter};
 ghost use Rattle.calendar.specs.Eligible.{ofDay};
 ghost use Rattle.baseline.specs.Choosing.{round, standing, lowest, chosen};
-ghost use Rattle.baseline.specs.Days.{daysFrom, Rising, Holds, choice};
+ghost use Rattle.baseline.specs.Days.{daysFrom, Rising, Holds, roundOf, choice};
 
 // The four days, nearest first, or four zeros where there are not enough.
 pub struct Chosen {
@@ -22,15 +22,19 @@ struct Round {
     all: u64,
 }
 
-// Of five days, those that a round does not drop. All its tests use the same five sums together, `all`.
-fn keep(five: Round, sums: &[u64]) -> Round
-    requires { ⌜ (length (now sums) ≡ 30) × ((k : ℕ) → getD (now sums) k 0 ≤ 6_000_000_000) × Rising 0 30 (five .days) × Holds (ofDay (now sums)) (five .days) five ⌝ }
-    ensures { λ r. ⌜ Holds (ofDay (now (sums .entry))) (round (ofDay (now (sums .entry))) (five .days)) r ⌝ }
+// How many days are in hand, and their window sums together.
+struct Hand {
+    count: usize,
+    all: u64,
+}
+
+// Of five days, those that a round does not drop come to the front. All its tests use the same five sums together, `all`.
+fn keep(days: &mut [usize], sums: &[u64], five: Hand) -> Hand
+    requires { ⌜ (length (now sums) ≡ 30) × ((k : ℕ) → getD (now sums) k 0 ≤ 6_000_000_000) × Rising 0 30 (now days) × Holds (ofDay (now sums)) (now days) (roundOf (now days) five) ⌝ }
+    ensures { λ r. ⌜ Holds (ofDay (now (sums .entry))) (round (ofDay (now (sums .entry))) (now (days .entry))) (roundOf (now (days .exit)) r) ⌝ }
 {
-    let days = five.days;
     let all = five.all;
     let taken = five.count;
-    let mut kept = [0usize; 5];
     let mut count: usize = 0;
     let mut left = all;
     let mut i: usize = 0;
@@ -38,18 +42,14 @@ fn keep(five: Round, sums: &[u64]) -> Round
         let day = days[i];
         let sum = sums[day - 1];
         if all <= sum * 20 {
-            kept[count] = day;
+            days[count] = day;
             count += 1;
         } else {
             left -= sum;
         }
         i += 1;
     }
-    Round {
-        days: kept,
-        count,
-        all: left,
-    }
+    Hand { count, all: left }
 }
 
 // Rounds over the thirty days, until one drops no day or the days run out. A round goes on with the days that the one before it left.
@@ -75,14 +75,12 @@ fn walk(eligible: [bool; 30], sums: &[u64]) -> Round
             }
             k += 1;
         }
-        let five = Round { days, count, all };
-        let left = keep(five, sums);
+        let five = Hand { count, all };
+        let left = keep(&mut days, sums, five);
         stood = left.count;
         if stood == 5 {
             break 'walk;
         }
-        let next = left.days;
-        days = next;
         all = left.all;
     }
     Round {

@@ -1,37 +1,19 @@
 // A consumer's readings, of four bytes each: the test day's 48, then those of days 1 to 30 back.
 ghost use mathlib.Core.Path.{_≡_};
+ghost use mathlib.Core.Bool.{_&&_};
 ghost use mathlib.Core.List.{map};
-ghost use Prim.Native.Nat.{_<_, _≤_, _+_, _-_, _*_};
-ghost use lib.Dec.{eqb};
+ghost use Prim.Native.Nat.{_<_, _≤_, _+_, _-_, _*_, _/_, _%_};
+ghost use lib.Dec.{ltb};
 ghost use lib.ListN.{length, drop};
 ghost use Rattle.numbers.specs.Lists.{run, sum};
 ghost use Rattle.numbers.specs.Words.{word32};
-ghost use Rattle.baseline.specs.Readings.{firstLarge, reading, windowSum, windowSums, slotSums, daySums, earlierUse};
+ghost use Rattle.baseline.specs.Readings.{mostReading, firstLarge, reading, windowSum, windowSums, slotSums, daySums, earlierUse};
 ghost use Rattle.baseline.specs.Days.{Back};
+ghost use Rattle.baseline.specs.Packed.{Passes};
 use numbers::word32_at;
 
 // Wh
 const MOST_READING: u32 = 1_000_000_000;
-
-// Whether none of the four readings from reading i on is too large. One `if` each: a comparison and a jump.
-fn four_fit(readings: &[u8], i: usize) -> bool
-    requires { ⌜ (i + 4) * 4 ≤ length (now readings) ⌝ }
-    ensures { λ r. ⌜ r ≡ eqb (firstLarge (drop (i * 4) (now (readings .entry))) 4) 4 ⌝ }
-{
-    if MOST_READING < word32_at(readings, i * 4) {
-        return false;
-    }
-    if MOST_READING < word32_at(readings, (i + 1) * 4) {
-        return false;
-    }
-    if MOST_READING < word32_at(readings, (i + 2) * 4) {
-        return false;
-    }
-    if MOST_READING < word32_at(readings, (i + 3) * 4) {
-        return false;
-    }
-    true
-}
 
 // The first of n readings that is too large, from reading `start` on, or n.
 fn first_large_from(readings: &[u8], start: usize, n: usize) -> usize
@@ -48,18 +30,83 @@ fn first_large_from(readings: &[u8], start: usize, n: usize) -> usize
     n
 }
 
-// The first of n readings that is too large, counted from 0, or n. Sixteen are passed at a time while none of them is.
+// The four bytes of a reading, its high byte lowest. Where that is small, so is the reading.
+fn turned(a: u8, b: u8, c: u8, d: u8) -> u32
+    ensures { λ r. ⌜ (r ≡ a + b * 256 + (c + d * 256) * 65536) × (r % 256 < 32 → (a * 256 + b) * 65536 + (c * 256 + d) ≤ mostReading) ⌝ }
+{
+    (a as u32) + (b as u32) * 256 + ((c as u32) + (d as u32) * 256) * 65536
+}
+
+fn one_packed(readings: &[u8], i: usize) -> u32
+    requires { ⌜ (i + 1) * 4 ≤ length (now readings) ⌝ }
+    ensures { λ r. ⌜ (r % 256 < 32 → firstLarge (drop (i * 4) (now (readings .entry))) 1 ≡ 1) ⌝ }
+{
+    let at = i * 4;
+    turned(
+        readings[at],
+        readings[at + 1],
+        readings[at + 2],
+        readings[at + 2 + 1],
+    )
+}
+
+// Two numbers side by side.
+fn beside(low: u32, high: u32) -> u64
+    ensures { λ r. ⌜ (r % 256 ≡ low % 256) × (r / 4294967296 % 256 ≡ high % 256) ⌝ }
+{
+    (low as u64) + (high as u64) * 4294967296
+}
+
+// Readings packed into one number, two side by side and the others over them by `|`. The compiler makes of it one load and one `or` for
+// four readings, with no test of each.
+fn two_packed(readings: &[u8], i: usize) -> u64
+    requires { ⌜ (i + 2) * 4 ≤ length (now readings) ⌝ }
+    ensures { λ r. ⌜ Passes (now (readings .entry)) i 2 r ⌝ }
+{
+    beside(one_packed(readings, i), one_packed(readings, i + 1))
+}
+
+fn four_packed(readings: &[u8], i: usize) -> u64
+    requires { ⌜ (i + 4) * 4 ≤ length (now readings) ⌝ }
+    ensures { λ r. ⌜ Passes (now (readings .entry)) i 4 r ⌝ }
+{
+    two_packed(readings, i) | two_packed(readings, i + 2)
+}
+
+fn eight_packed(readings: &[u8], i: usize) -> u64
+    requires { ⌜ (i + 8) * 4 ≤ length (now readings) ⌝ }
+    ensures { λ r. ⌜ Passes (now (readings .entry)) i 8 r ⌝ }
+{
+    four_packed(readings, i) | four_packed(readings, i + 4)
+}
+
+fn sixteen_packed(readings: &[u8], i: usize) -> u64
+    requires { ⌜ (i + 16) * 4 ≤ length (now readings) ⌝ }
+    ensures { λ r. ⌜ Passes (now (readings .entry)) i 16 r ⌝ }
+{
+    eight_packed(readings, i) | eight_packed(readings, i + 8)
+}
+
+// Whether the high bytes of packed readings are all below 32.
+fn is_small(packed: u64) -> bool
+    ensures { λ r. ⌜ r ≡ ltb (packed % 256) 32 && ltb (packed / 4294967296 % 256) 32 ⌝ }
+{
+    packed % 256 < 32 && packed / 4294967296 % 256 < 32
+}
+
+// The first of n readings that is too large, counted from 0, or n. Sixteen are passed at a time; where they are not all small, one by one.
 pub fn first_large(readings: &[u8], n: usize) -> usize
     requires { ⌜ n * 4 ≤ length (now readings) ⌝ }
     ensures { λ r. ⌜ r ≡ firstLarge (now (readings .entry)) n ⌝ }
 {
     let mut i: usize = 0;
-    while 16 <= n - i
-        && four_fit(readings, i)
-        && four_fit(readings, i + 4)
-        && four_fit(readings, i + 8)
-        && four_fit(readings, i + 12)
-    {
+    while 16 <= n - i {
+        if !is_small(sixteen_packed(readings, i)) {
+            let found = first_large_from(readings, i, i + 16);
+            if found < i + 16 {
+                return found;
+            }
+        }
         i += 16;
     }
     first_large_from(readings, i, n)

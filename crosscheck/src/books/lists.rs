@@ -97,7 +97,7 @@ fn mark_some(random: &mut Random, list: &mut List) {
 }
 
 /// The eligible days of a list, nearest first.
-fn eligible(list: &List) -> Vec<usize> {
+pub fn eligible(list: &List) -> Vec<usize> {
     let terms = Terms::read(&list.head.value(), &list.marks);
     let days = terms.map(|terms| terms.eligible_days()).unwrap_or_default();
     days.into_iter().map(usize::from).collect()
@@ -117,7 +117,7 @@ fn class(random: &mut Random) -> u8 {
 }
 
 /// A consumer with readings around a level; the window of the test day lower.
-fn consumer(random: &mut Random, list: &List, level: u32) -> ConsumerFields {
+pub fn consumer(random: &mut Random, list: &List, level: u32) -> ConsumerFields {
     let mut consumer = ConsumerFields::flat(next_number(random, list), class(random), 0);
     let spread = level / random.one_of(&[2, 10, 100]);
     for reading in &mut consumer.readings {
@@ -215,7 +215,7 @@ pub fn several_edges(random: &mut Random) -> List {
 
 /// A consumer whose eligible days have the window sums given, nearest first,
 /// and the last of them again for all days farther back.
-fn consumer_with_sums(random: &mut Random, list: &List, sums: &[u32]) -> ConsumerFields {
+pub fn consumer_with_sums(random: &mut Random, list: &List, sums: &[u32]) -> ConsumerFields {
     let first_slot = list.head.first_slot;
     let mut consumer = consumer(random, list, 1_200);
     let farther = sums.iter().chain(sums.last().into_iter().cycle());

@@ -1,6 +1,6 @@
 -- `walk` meets its contract. Both loops keep what `Here` says of the days in hand; each round but the last goes to a farther place.
 -- Assumes nothing.
-use mathlib.Core.Path.{refl}
+use mathlib.Core.Path.{refl, sym}
 use mathlib.Core.Logic.{⊎-elim}
 use Prim.Native.Nat.{_≤_, _<_, _-_, _+_}
 use native.Mathlib.Omega.{arith}
@@ -69,10 +69,13 @@ loop-again c =
     (λ w. (omega arith, omega arith, rw (w .1, w .2, w .3) (passed (l .inv .2) (omega arith) (w .0 .left))))
     (c .if2 .came)
 
+slice-aggregate-keep : tie.Need-slice-aggregate-keep Inv-loop μ-loop Inv-walk μ-walk
+slice-aggregate-keep c = sym (c .before .before .loop .inv .2 .places)
+
 keep-requires : tie.Need-keep-requires Inv-loop μ-loop Inv-walk μ-walk
 keep-requires c κs =
-    let s = c .before .before .before .before in
-    let l = c .before .loop in
+    let s = c .before .before .before .before .before in
+    let l = c .before .before .loop in
     (s .pre .0, s .pre .1, rising-farther (l .inv .0) (five-rising (l .inv .2) (omega arith)), five-held (l .inv .2) (omega arith))
 
 walk-less : tie.Need-walk-less Inv-loop μ-loop Inv-walk μ-walk
@@ -80,15 +83,16 @@ walk-less c = omega arith
 
 walk-again : tie.Need-walk-again Inv-loop μ-loop Inv-walk μ-walk
 walk-again c =
-    let l = c .before .before .before .before .loop in
-    let left = went-on (l .inv .2) (omega arith) (c .before .before .keep .ensures) (λ five. omega (arith, c .before .if3 .left)) in
+    let l = c .before .before .before .before .before .loop in
+    let left = went-on (l .inv .2) (omega arith) (c .before .before .keep .ensures) (λ five. omega (arith, c .if3 .left)) in
     (omega arith, omega arith, left)
 
 returns : tie.Need-returns Inv-loop μ-loop Inv-walk μ-walk
 returns c = ran-out (c .before .before .loop .inv .2) (omega arith) (omega arith)
 
 returns-2 : tie.Need-returns-2 Inv-loop μ-loop Inv-walk μ-walk
-returns-2 c = stopped (c .before .before .before .loop .inv .2) (omega arith) (c .before .keep .ensures) (omega (arith, c .if3 .taken))
+returns-2 c =
+    stopped (c .before .before .before .before .before .loop .inv .2) (omega arith) (c .before .before .keep .ensures) (omega (arith, c .if3 .taken))
 
 pub walk-spec : {M : Type 1} → statement M
 walk-spec =
@@ -111,6 +115,7 @@ walk-spec =
     add-k
     loop-less
     loop-again
+    slice-aggregate-keep
     keep-requires
     walk-less
     walk-again

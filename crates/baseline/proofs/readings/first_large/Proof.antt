@@ -1,13 +1,14 @@
 -- `first_large` meets its contract. The invariant: the first too large reading is the first from reading i on. Assumes nothing.
 use mathlib.Core.Path.{_≡_, sym, _∙_}
+use mathlib.Core.Logic.{⊎-elim}
 use Prim.Native.Nat.{_≤_, _-_, _+_, _*_}
 use native.Mathlib.Nat.{zero-add, sub-zero}
 use native.Mathlib.Omega.{arith}
 use lib.ListN.{length}
 use borrow.Author.Needs.{needs}
-use borrow.Author.Tests.{eqb-true}
 use Rattle.baseline.specs.Readings.{firstLarge}
-use Rattle.baseline.proofs.Large.{from, join, left-pass}
+use Rattle.baseline.proofs.Large.{from, left-pass, left-none-in, left-found-in}
+use Rattle.baseline.proofs.Packing.{small-of}
 use Rattle.baseline.proofs.readings.first_large.Statement.{statement}
 use Rattle.baseline.proofs.readings.first_large.Tie as tie
 
@@ -24,26 +25,25 @@ loop-holds c = (search needs, search needs, simp (zero-add, sub-zero))
 sub-loop : tie.Need-sub-loop Inv-loop μ-loop
 sub-loop c = omega arith
 
-four-fit-requires : tie.Need-four-fit-requires Inv-loop μ-loop
-four-fit-requires c κs = omega arith
+sixteen-packed-requires : tie.Need-sixteen-packed-requires Inv-loop μ-loop
+sixteen-packed-requires c κs = omega arith
 
-add-four-fit : tie.Need-add-four-fit Inv-loop μ-loop
-add-four-fit c = omega arith
+is-small-requires : tie.Need-is-small-requires Inv-loop μ-loop
+is-small-requires c κs = search needs
 
-four-fit-requires-2 : tie.Need-four-fit-requires-2 Inv-loop μ-loop
-four-fit-requires-2 c κs = omega arith
+add-first-large-from : tie.Need-add-first-large-from Inv-loop μ-loop
+add-first-large-from c = omega arith
 
-add-four-fit-2 : tie.Need-add-four-fit-2 Inv-loop μ-loop
-add-four-fit-2 c = omega arith
+first-large-from-requires : tie.Need-first-large-from-requires Inv-loop μ-loop
+first-large-from-requires c κs = (omega arith, omega arith)
 
-four-fit-requires-3 : tie.Need-four-fit-requires-3 Inv-loop μ-loop
-four-fit-requires-3 c κs = omega arith
+add-if2 : tie.Need-add-if2 Inv-loop μ-loop
+add-if2 c = omega arith
 
-add-four-fit-3 : tie.Need-add-four-fit-3 Inv-loop μ-loop
-add-four-fit-3 c = omega arith
-
-four-fit-requires-4 : tie.Need-four-fit-requires-4 Inv-loop μ-loop
-four-fit-requires-4 c κs = omega arith
+returns : tie.Need-returns Inv-loop μ-loop
+returns c =
+    let l = c .before .before .before .before .before .before .loop in
+    sym (l .inv .2 ∙ left-found-in _ (l .i) _ 16 _ (c .before .first-large-from .ensures) (omega (arith, c .if2 .taken)) (omega arith))
 
 add-i : tie.Need-add-i Inv-loop μ-loop
 add-i c = omega arith
@@ -53,20 +53,21 @@ loop-less c = omega arith
 
 loop-again : tie.Need-loop-again Inv-loop μ-loop
 loop-again c =
-    let l = c .before .before .before .before .before .before .before .before .before .loop in
-    let s = c .before .before .before .before .before .before .before .before .before .before .before .args .readings .now in
-    let a : from s (l .i) 4 ≡ 4 = eqb-true _ _ (sym (c .before .before .before .before .before .before .before .four-fit .ensures) ∙ c .before .before .before .before .before .before .if1 .taken) in
-    let b : from s (l .i + 4) 4 ≡ 4 = eqb-true _ _ (sym (c .before .before .before .before .before .four-fit2 .ensures) ∙ c .before .before .before .before .if2 .taken) in
-    let d : from s (l .i + 8) 4 ≡ 4 = eqb-true _ _ (sym (c .before .before .before .four-fit3 .ensures) ∙ c .before .before .if3 .taken) in
-    let e : from s (l .i + 12) 4 ≡ 4 = eqb-true _ _ (sym (c .before .four-fit4 .ensures) ∙ c .if4 .taken) in
-    let all = join s 12 4 (l .i) (join s 8 4 (l .i) (join s 4 4 (l .i) a b) d) e in
-    (omega arith, l .inv .1, l .inv .2 ∙ left-pass s (l .i) _ 16 (omega arith) all)
+    let l = c .before .before .before .before .loop in
+    let s = c .before .before .before .before .before .before .args .readings .now in
+    let none : from s (l .i) 16 ≡ 16
+    = ⊎-elim
+    (λ w. left-none-in s (l .i) 0 16 _ (w .1 .ensures) (omega (arith, w .2 .left)))
+    (λ w. c .before .before .sixteen-packed .ensures (small-of _ _ (c .before .is-small .ensures) (w .left)))
+    (c .if1 .came)
+    in
+    (omega arith, l .inv .1, l .inv .2 ∙ left-pass s (l .i) _ 16 (omega arith) none)
 
-first-large-from-requires : tie.Need-first-large-from-requires Inv-loop μ-loop
-first-large-from-requires c κs = omega arith
+first-large-from-requires-2 : tie.Need-first-large-from-requires-2 Inv-loop μ-loop
+first-large-from-requires-2 c κs = omega arith
 
-returns : tie.Need-returns Inv-loop μ-loop
-returns c = c .first-large-from .ensures ∙ sym (c .before .before .loop .inv .2)
+returns-2 : tie.Need-returns-2 Inv-loop μ-loop
+returns-2 c = c .first-large-from2 .ensures ∙ sym (c .before .before .loop .inv .2)
 
 pub first-large-spec : {M : Type 1} → statement M
 first-large-spec =
@@ -76,15 +77,14 @@ first-large-spec =
     μ-loop
     loop-holds
     sub-loop
-    four-fit-requires
-    add-four-fit
-    four-fit-requires-2
-    add-four-fit-2
-    four-fit-requires-3
-    add-four-fit-3
-    four-fit-requires-4
+    sixteen-packed-requires
+    is-small-requires
+    add-first-large-from
+    first-large-from-requires
+    add-if2
+    returns
     add-i
     loop-less
     loop-again
-    first-large-from-requires
-    returns)
+    first-large-from-requires-2
+    returns-2)
