@@ -1,6 +1,3 @@
-pub mod Sums
-pub mod Large
-pub mod Packing
 pub mod Rising
 pub mod Flags
 pub mod Keeping

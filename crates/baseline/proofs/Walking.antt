@@ -16,7 +16,7 @@ use Rattle.baseline.specs.declared.choosing.Round.{Round}
 use Rattle.baseline.proofs.Rising.{rising-farther, rising-append, rising-filter}
 use Rattle.baseline.proofs.Flags.{further, further-yes, further-no, further-end}
 use Rattle.baseline.proofs.Keeping.{put-day}
-use Rattle.baseline.proofs.Sums.{sum-days, days-within}
+use Rattle.readings.proofs.Sums.{sum-days, days-within}
 use Rattle.baseline.proofs.Rounds.{round-length, filter-all, days-run-out, none-dropped, some-dropped}
 
 -- Before place k: the first `count` of the five places hold the days in hand. Those that stand in the end are those that stand of the

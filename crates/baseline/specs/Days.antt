@@ -4,7 +4,7 @@ use mathlib.Core.Bool.{Bool, true, false, cond}
 use mathlib.Core.List.{List, [], _∷_, map}
 use Prim.Native.Nat.{ℕ, suc, _<_, _≤_}
 use lib.Dec.{ltb}
-use lib.ListN.{length, getD, take, replicate}
+use lib.ListN.{length, take, replicate}
 use Rattle.numbers.specs.Lists.{sum}
 use Rattle.baseline.specs.declared.choosing.Round.{Round}
 use Rattle.baseline.specs.declared.choosing.Hand.{Hand}
@@ -19,10 +19,6 @@ daysFrom k (flag ∷ flags) = cond flag (k ∷ daysFrom (suc k) flags) (daysFrom
 pub data Rising : ℕ → ℕ → List ℕ → Type 0 where
   none : {near far : ℕ} → near ≤ far → Rising near far []
   next : {near far k : ℕ} {days : List ℕ} → near < k → Rising k far days → Rising near far (k ∷ days)
-
--- days of which none is farther than thirty; past the last day stands 0
-abbrev pub Back : List ℕ → Type 0
-Back days = (i : ℕ) → getD days i 0 ≤ 30
 
 -- A round holds some days, at most five, and their window sums together.
 pub record Holds (w : ℕ → ℕ) (days : List ℕ) (r : Round) : Type 0 where

@@ -1,5 +1,3 @@
-pub mod Readings
 pub mod Choosing
 pub mod Baseline
 pub mod Days
-pub mod Packed

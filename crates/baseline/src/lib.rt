@@ -4,12 +4,11 @@ ghost use mathlib.Core.List.{[]};
 ghost use Prim.Native.Nat.{ℕ, _<_, _≤_};
 ghost use lib.ListN.{length, getD};
 ghost use Rattle.numbers.specs.Lists.{sum};
-ghost use Rattle.baseline.specs.Readings.{firstLarge};
+ghost use Rattle.readings.specs.Readings.{firstLarge, Back};
 ghost use Rattle.baseline.specs.Baseline.{chosenDays, baseline};
-ghost use Rattle.baseline.specs.Days.{Back, choice};
+ghost use Rattle.baseline.specs.Days.{choice};
 
 pub mod choosing;
-pub mod readings;
 
 use calendar::eligible_days;
 use choosing::Chosen;

@@ -6,7 +6,7 @@ use native.Mathlib.Omega.{arith}
 use borrow.Author.Tests.{eq-eqb, ne-eqb}
 use lib.ListN.{length, take, drop, length-drop}
 use lib.Seq.{drop-drop, take-all}
-use Rattle.values.specs.Points.{Point}
+use Rattle.points.specs.Points.{Point}
 use Rattle.ledger.specs.Operations.{openOf, addOf, closeOf}
 use Rattle.ledger.specs.declared.State.{State}
 use Rattle.ledger.specs.declared.Opened.{Opened}

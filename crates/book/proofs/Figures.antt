@@ -6,7 +6,7 @@ use Prim.Native.Nat.{ℕ, _+_}
 use native.Mathlib.Nat.{zero-add}
 use native.Mathlib.Omega.{arith}
 use borrow.Author.Tests.{le-ltb}
-use Rattle.values.specs.Heads.{headOf}
+use Rattle.heads.specs.Heads.{headOf}
 use Rattle.ledger.specs.States.{opened, taken}
 use Rattle.ledger.specs.Operations.{openOf, addOf, closeOf}
 use Rattle.ledger.specs.Demand3.{Reply, accepted, closed, replyOf, replies, program}

@@ -17,11 +17,11 @@ use Rattle.numbers.specs.Lists.{gather}
 use Rattle.numbers.specs.Integers.{sumℤ}
 use Rattle.numbers.specs.Words.{bytesOf, twosComplement}
 use Rattle.numbers.proofs.Refusals.{clear}
-use Rattle.values.specs.Heads.{contentTests, contentRefusal}
+use Rattle.heads.specs.Heads.{contentTests, contentRefusal}
 use Rattle.ledger.specs.States.{isUnsound}
 use Rattle.ledger.specs.Figures.{settledOf, shortfallOf, expectedOf, figuresOf}
 use Rattle.ledger.specs.Operations.{closingRefusal, closeOf}
-use Rattle.values.specs.declared.Head.{Head}
+use Rattle.heads.specs.declared.Head.{Head}
 use Rattle.ledger.specs.declared.State.{State}
 use Rattle.ledger.proofs.FigureSteps.{shortfall-above, shortfall-below}
 use Rattle.ledger.proofs.Sound.{close-refusal, close-good, sound}

@@ -13,13 +13,13 @@ use mir.Facts.{and-yes, yes-and}
 use Rattle.numbers.specs.Lists.{gather}
 use Rattle.numbers.specs.PointNumbers.{below}
 use Rattle.numbers.proofs.Refusals.{testOf, untold, clear-zero}
-use Rattle.values.specs.Heads.{headOf}
-use Rattle.values.specs.Points.{Point, kindOf, isUnknown, numberOf, lacksDays}
+use Rattle.heads.specs.Heads.{headOf}
+use Rattle.points.specs.Points.{Point, kindOf, isUnknown, numberOf, lacksDays}
 use Rattle.ledger.specs.States.{opened, taken}
 use Rattle.ledger.specs.Operations.{pointTests, pointRefusal, addingTests, addingRefusal, resultsOf, addOf}
-use Rattle.values.specs.declared.Head.{Head}
+use Rattle.heads.specs.declared.Head.{Head}
 use Rattle.ledger.specs.declared.State.{State}
-use Rattle.values.proofs.Bounds.{opening-lengths}
+use Rattle.heads.proofs.Opening.{opening-lengths}
 use Rattle.ledger.proofs.Sound.{open-refusal, open-good, add-refusal, add-good, Sound, opened-sound, adding-sound, taken-sound}
 use Rattle.fields.specs.Fields.{isTag, written}
 use Rattle.book.specs.Reading.{Reading, good, Part, Points, before, readPoints, Contents, Book, bookOf, readBook}

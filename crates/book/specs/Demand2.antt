@@ -7,8 +7,8 @@ use lib.Dec.{T}
 use lib.ListN.{length, getD}
 use Rattle.numbers.specs.Lists.{any, gather}
 use Rattle.numbers.specs.PointNumbers.{below}
-use Rattle.values.specs.Heads.{headOf, openingRefusal}
-use Rattle.values.specs.Points.{Point, kindOf, numberOf, lacksDays}
+use Rattle.heads.specs.Heads.{headOf, openingRefusal}
+use Rattle.points.specs.Points.{Point, kindOf, numberOf, lacksDays}
 use Rattle.ledger.specs.Operations.{closeOf}
 use Rattle.ledger.specs.Account.{Call, adding, closing}
 use Rattle.ledger.specs.Demand3.{Reply, accepted, closed, program}

@@ -4,7 +4,7 @@ use mathlib.Core.List.{List, [], _∷_}
 use Prim.Native.Nat.{ℕ, zero, suc}
 use lib.Dec.{eqb}
 use lib.ListN.{length}
-use Rattle.values.specs.Points.{Point}
+use Rattle.points.specs.Points.{Point}
 use Rattle.ledger.specs.Operations.{openOf, addOf}
 use Rattle.ledger.specs.declared.State.{State}
 use Rattle.fields.specs.Fields.{fieldOf, valueIn, behind}

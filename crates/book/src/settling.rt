@@ -42,7 +42,7 @@ fn read_points(opened: State, book: &[u8], start: usize) -> Ending
         let end = from + size;
         let mut places = [0i64; 6];
         let added = ledger::add(state, tag, &book[from..end], &mut places);
-        if added.refusal != values::refusals::ACCEPTED {
+        if added.refusal != heads::refusals::ACCEPTED {
             return refused(added.refusal);
         }
         state = added.state;
@@ -53,7 +53,7 @@ fn read_points(opened: State, book: &[u8], start: usize) -> Ending
         return refused(fields::refusals::BYTES_AFTER);
     }
     Ending {
-        refusal: values::refusals::ACCEPTED,
+        refusal: heads::refusals::ACCEPTED,
         state,
     }
 }
@@ -74,7 +74,7 @@ pub fn read(book: &[u8]) -> Ending
     let from = head_end + 3;
     let end = from + calendar_size;
     let opened = ledger::open(&book[3..head_end], &book[from..end]);
-    if opened.refusal != values::refusals::ACCEPTED {
+    if opened.refusal != heads::refusals::ACCEPTED {
         return refused(opened.refusal);
     }
     let state = opened.state;
@@ -148,7 +148,7 @@ pub fn settle(book: &[u8], result: &mut [u8]) -> u32
     }
     let ending = read(book);
     let refusal = ending.refusal;
-    if refusal != values::refusals::ACCEPTED {
+    if refusal != heads::refusals::ACCEPTED {
         return refusal;
     }
     // The closing of a book that is read in full is never refused.
@@ -157,5 +157,5 @@ pub fn settle(book: &[u8], result: &mut [u8]) -> u32
     let figures = closed.figures;
     let words = words_of(figures);
     put_words(words, result);
-    values::refusals::ACCEPTED
+    heads::refusals::ACCEPTED
 }

@@ -7,7 +7,7 @@ use lib.IntN.{ℤ, pos, negsuc}
 use lib.ListN.{getD, take, drop}
 use Rattle.numbers.specs.Lists.{run}
 use Rattle.numbers.specs.Words.{word16, word32}
-use Rattle.values.specs.declared.Head.{Head}
+use Rattle.heads.specs.declared.Head.{Head}
 use Rattle.ledger.specs.declared.State.{State}
 use Rattle.call_vectors.specs.declared.parts.Part.{Part}
 use Rattle.call_vectors.specs.declared.parts.Part.the-variants.{Whole, Cut}

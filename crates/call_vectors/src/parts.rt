@@ -4,9 +4,9 @@ ghost use Prim.Native.Nat.{_+_, _*_, _≤_};
 ghost use lib.ListN.{length};
 ghost use Rattle.numbers.specs.Lists.{run};
 ghost use Rattle.call_vectors.specs.Parts.{lengthOf, signedOf, signedAt, signedIn, headIn, stateIn};
+use heads::Head;
 use ledger::State;
 use libc::STDIN_FILENO;
-use values::Head;
 
 // What was read of a part with its length in front.
 pub enum Part {
@@ -103,11 +103,11 @@ pub fn state_of(bytes: &[u8]) -> State
     ensures { λ r. ⌜ r ≡ stateIn (now (bytes .entry)) ⌝ }
 {
     let head = head_of(bytes);
-    let marks = values::heads::marks_of(&bytes[19..49]);
+    let marks = heads::marks_of(&bytes[19..49]);
     let points = numbers::word32_at(bytes, 49);
     let mut totals = [0i64; 6];
     signed_list(&bytes[53..101], &mut totals);
-    let last = values::points::number_of(&bytes[101..123]);
+    let last = points::number_of(&bytes[101..123]);
     State {
         head,
         marks,

@@ -6,9 +6,9 @@ use ledger::State;
 // The refusal of an adding, or the six places where there is none.
 fn add(state: State, value: &[u8]) {
     let mut places = [0i64; 6];
-    let added = ledger::add(state, values::points::CONSUMER, value, &mut places);
+    let added = ledger::add(state, points::CONSUMER, value, &mut places);
     let refusal = added.refusal;
-    if refusal == values::refusals::ACCEPTED {
+    if refusal == heads::refusals::ACCEPTED {
         text::results(&places);
     } else {
         text::refusal(refusal);

@@ -6,7 +6,7 @@ use ledger::State;
 
 fn close(state: State, value: &[u8]) -> Figures {
     let mut places = [0i64; 6];
-    let added = ledger::add(state, values::points::GENERATOR, value, &mut places);
+    let added = ledger::add(state, points::GENERATOR, value, &mut places);
     let after = added.state;
     let closed = ledger::close(after);
     let figures = closed.figures;

@@ -10,14 +10,14 @@ use lib.Dec.{leb, ltb, eqb}
 use lib.ListN.{length, take, drop, length-take, length-drop}
 use lib.Seq.{drop-drop, take-take}
 use mir.Facts.{and-yes}
-use Rattle.values.specs.Points.{numberOf}
-use Rattle.values.specs.Heads.{headOf, openingRefusal}
+use Rattle.points.specs.Points.{numberOf}
+use Rattle.heads.specs.Heads.{headOf, openingRefusal}
 use Rattle.ledger.specs.States.{noState, opened, taken}
 use Rattle.ledger.specs.Operations.{openOf, addOf, resultsOf}
 use Rattle.ledger.specs.declared.State.{State}
-use Rattle.values.proofs.Bounds.{opening-content}
+use Rattle.heads.proofs.Opening.{opening-content}
 use Rattle.ledger.proofs.Sound.{open-refusal, open-good, add-refusal, add-good}
-use Rattle.values.proofs.Bounds.{opens}
+use Rattle.heads.proofs.Opening.{opens}
 use Rattle.fields.specs.Fields.{tagAt, lengthDue, fieldOf, valueIn, behind}
 use Rattle.fields.specs.Headers.{headerTests, headerRefusal}
 use Rattle.book.specs.Reading.{readPoints, readBook}

@@ -59,7 +59,7 @@ pub fn start() -> Progress
         wait: Wait::Header(Due::Head),
         head: [0; 17],
         state,
-        refusal: values::refusals::ACCEPTED,
+        refusal: heads::refusals::ACCEPTED,
     }
 }
 
@@ -93,7 +93,7 @@ fn point_or_end(state: State) -> Wait
 fn go_on(refusal: u32, state: State, progress: Progress) -> Progress
     ensures { λ r. ⌜ r ≡ going refusal state progress ⌝ }
 {
-    if refusal != values::refusals::ACCEPTED {
+    if refusal != heads::refusals::ACCEPTED {
         return refused_at(refusal, progress);
     }
     let wait = point_or_end(state);
@@ -102,7 +102,7 @@ fn go_on(refusal: u32, state: State, progress: Progress) -> Progress
         wait,
         head,
         state,
-        refusal: values::refusals::ACCEPTED,
+        refusal: heads::refusals::ACCEPTED,
     }
 }
 
@@ -110,7 +110,7 @@ fn feed_header(kind: Due, progress: Progress, bytes: &[u8]) -> Progress
     ensures { λ r. ⌜ r ≡ headerFed kind progress (now (bytes .entry)) ⌝ }
 {
     let refusal = fields::cutting::header_refusal(kind, bytes);
-    if refusal != values::refusals::ACCEPTED {
+    if refusal != heads::refusals::ACCEPTED {
         return refused_at(refusal, progress);
     }
     let head = progress.head;
@@ -119,7 +119,7 @@ fn feed_header(kind: Due, progress: Progress, bytes: &[u8]) -> Progress
         wait: Wait::Value(kind, bytes[0]),
         head,
         state,
-        refusal: values::refusals::ACCEPTED,
+        refusal: heads::refusals::ACCEPTED,
     }
 }
 
@@ -147,7 +147,7 @@ fn got_head(progress: Progress, value: &[u8]) -> Progress
         wait: Wait::Header(Due::Calendar),
         head,
         state,
-        refusal: values::refusals::ACCEPTED,
+        refusal: heads::refusals::ACCEPTED,
     }
 }
 
@@ -198,7 +198,7 @@ fn feed_end(progress: Progress, bytes: &[u8]) -> Progress
         wait: Wait::Nothing,
         head,
         state,
-        refusal: values::refusals::ACCEPTED,
+        refusal: heads::refusals::ACCEPTED,
     }
 }
 

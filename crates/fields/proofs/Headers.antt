@@ -9,7 +9,7 @@ use lib.Dec.{T, eqb}
 use lib.ListN.{length}
 use Rattle.numbers.specs.Words.{word16}
 use Rattle.numbers.proofs.Refusals.{Clear, numbered, clear}
-use Rattle.values.specs.Points.{Kind, consumer, generator, unknown, kindOf, sizeOf}
+use Rattle.points.specs.Points.{Kind, consumer, generator, unknown, kindOf, sizeOf}
 use Rattle.fields.specs.Fields.{tagAt, isTag, isPoint, lengthDue}
 use Rattle.fields.specs.Headers.{headerTests, headerRefusal}
 use Rattle.fields.specs.declared.Due.{Due}

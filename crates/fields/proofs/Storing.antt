@@ -9,7 +9,7 @@ use lib.Seq.{paste, take-all, take-length, take-at, drop-at, drop-drop}
 use borrow.Rule.Slice.PartMut.{putMid}
 use Rattle.numbers.specs.Words.{bytesOf}
 use Rattle.fields.specs.Fields.{written}
-use Rattle.values.specs.Heads.{openingRefusal}
+use Rattle.heads.specs.Heads.{openingRefusal}
 use Rattle.fields.specs.Writing.{atFront, writtenHead, headWritingRefusal, headWritingOut}
 
 -- ---- the answer and the lent bytes, in each case

@@ -10,8 +10,8 @@ use lib.ListN.{length, drop}
 use Rattle.numbers.specs.Refusals.{firstOf}
 use Rattle.numbers.specs.PointNumbers.{isNumber}
 use Rattle.numbers.proofs.Refusals.{untold, told, passed}
-use Rattle.values.specs.Points.{kindOf, sizeOf, numberOf}
-use Rattle.values.proofs.PointRows.{formRows, valueRows}
+use Rattle.points.specs.Points.{kindOf, sizeOf, numberOf}
+use Rattle.points.proofs.PointRows.{formRows, valueRows}
 use Rattle.fields.specs.Fields.{written}
 use Rattle.fields.specs.Writing.{atFront, pointWritingTests, pointWritingRefusal, pointWritingOut}
 use Rattle.fields.specs.WritingRows.{writingRows, writingTold}

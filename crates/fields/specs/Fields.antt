@@ -6,7 +6,7 @@ use lib.Dec.{ltb, eqb}
 use lib.ListN.{length, getD, take, drop}
 use Rattle.numbers.specs.Words.{word16, bytesOf}
 use Rattle.numbers.specs.Refusals.{firstOf}
-use Rattle.values.specs.Points.{kindOf, isUnknown, sizeOf}
+use Rattle.points.specs.Points.{kindOf, isUnknown, sizeOf}
 use Rattle.fields.specs.declared.Due.{Due}
 use Rattle.fields.specs.declared.Due.the-variants.{Head, Calendar, Point}
 use Rattle.fields.specs.declared.Field.{Field}

@@ -6,8 +6,8 @@ use lib.Dec.{ltb, eqb}
 use lib.ListN.{length, drop}
 use Rattle.numbers.specs.Refusals.{firstOf}
 use Rattle.numbers.specs.PointNumbers.{isNumber}
-use Rattle.values.specs.Heads.{openingRefusal}
-use Rattle.values.specs.Points.{kindOf, isUnknown, sizeOf, numberOf, isUnfit, hasLarge}
+use Rattle.heads.specs.Heads.{openingRefusal}
+use Rattle.points.specs.Points.{kindOf, isUnknown, sizeOf, numberOf, isUnfit, hasLarge}
 use Rattle.fields.specs.Fields.{written}
 
 -- at the front of the lent bytes; 'bytes behind it keep their values'

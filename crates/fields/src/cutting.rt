@@ -14,7 +14,7 @@ pub fn refusal_of(field: Field) -> u32
     ensures { λ r. ⌜ r ≡ refusalOf field ⌝ }
 {
     let Field::Refused(refusal) = field else {
-        return values::refusals::ACCEPTED;
+        return heads::refusals::ACCEPTED;
     };
     refusal
 }
@@ -26,7 +26,7 @@ fn is_tag(due: Due, tag: u8) -> bool
     match due {
         Due::Head => tag == 1,
         Due::Calendar => tag == 2,
-        Due::Point => !values::points::is_unknown_tag(tag),
+        Due::Point => !points::is_unknown_tag(tag),
     }
 }
 
@@ -37,7 +37,7 @@ pub fn length_due(due: Due, tag: u8) -> usize
     match due {
         Due::Head => 17,
         Due::Calendar => 30,
-        Due::Point => values::points::value_length(tag),
+        Due::Point => points::value_length(tag),
     }
 }
 
@@ -51,7 +51,7 @@ fn short_refusal(due: Due, length: usize) -> u32
     match due {
         Due::Head => refusals::BOOK_CUT,
         Due::Calendar => refusals::BOOK_CUT,
-        Due::Point => values::refusals::COUNT_NOT_REACHED,
+        Due::Point => heads::refusals::COUNT_NOT_REACHED,
     }
 }
 
@@ -61,7 +61,7 @@ fn tag_refusal(due: Due) -> u32
     match due {
         Due::Head => refusals::WRONG_TAG,
         Due::Calendar => refusals::WRONG_TAG,
-        Due::Point => values::refusals::POINT_TAG,
+        Due::Point => heads::refusals::POINT_TAG,
     }
 }
 
@@ -69,9 +69,9 @@ fn length_refusal(due: Due) -> u32
     ensures { λ r. ⌜ r ≡ cond (isPoint due) 12 1 ⌝ }
 {
     match due {
-        Due::Head => values::refusals::HEAD_LENGTH,
-        Due::Calendar => values::refusals::HEAD_LENGTH,
-        Due::Point => values::refusals::POINT_LENGTH,
+        Due::Head => heads::refusals::HEAD_LENGTH,
+        Due::Calendar => heads::refusals::HEAD_LENGTH,
+        Due::Point => heads::refusals::POINT_LENGTH,
     }
 }
 
@@ -90,7 +90,7 @@ pub fn header_refusal(due: Due, left: &[u8]) -> u32
     if numbers::word16_at(left, 1) as usize != size {
         return length_refusal(due);
     }
-    values::refusals::ACCEPTED
+    heads::refusals::ACCEPTED
 }
 
 // The field answer.
@@ -98,7 +98,7 @@ pub fn cut(due: Due, left: &[u8]) -> Field
     ensures { λ r. ⌜ r ≡ fieldOf due (now (left .entry)) ⌝ }
 {
     let refusal = header_refusal(due, left);
-    if refusal != values::refusals::ACCEPTED {
+    if refusal != heads::refusals::ACCEPTED {
         return Field::Refused(refusal);
     }
     let tag = left[0];

@@ -28,8 +28,8 @@ fn put_field(tag: u8, value: &[u8], out: &mut [u8])
 pub fn write_head(head: &[u8], calendar: &[u8], out: &mut [u8]) -> u32
     ensures { λ r. ⌜ (r ≡ headWritingRefusal (now (head .entry)) (now (calendar .entry)) (length (now (out .entry)))) × (now (out .exit) ≡ headWritingOut (now (head .entry)) (now (calendar .entry)) (now (out .entry))) ⌝ }
 {
-    let refusal = values::heads::opening_refusal(head, calendar);
-    if refusal != values::refusals::ACCEPTED {
+    let refusal = heads::opening_refusal(head, calendar);
+    if refusal != heads::refusals::ACCEPTED {
         return refusal;
     }
     if out.len() < 53 {
@@ -37,21 +37,21 @@ pub fn write_head(head: &[u8], calendar: &[u8], out: &mut [u8]) -> u32
     }
     put_field(1, head, out);
     put_field(2, calendar, &mut out[20..]);
-    values::refusals::ACCEPTED
+    heads::refusals::ACCEPTED
 }
 
 // What is refused in a point before room is looked for: 11, 12, 14, 16, 17.
 fn point_refusal(tag: u8, value: &[u8]) -> u32
     ensures { λ r. ⌜ r ≡ writingTold tag (now (value .entry)) ⌝ }
 {
-    let form = values::points::form_refusal(tag, value.len());
-    if form != values::refusals::ACCEPTED {
+    let form = points::form_refusal(tag, value.len());
+    if form != heads::refusals::ACCEPTED {
         return form;
     }
     if !numbers::is_number(&value[0..22]) {
-        return values::refusals::POINT_NUMBER;
+        return heads::refusals::POINT_NUMBER;
     }
-    values::points::value_refusal(tag, value)
+    points::value_refusal(tag, value)
 }
 
 // A point's field.
@@ -59,12 +59,12 @@ pub fn write_point(tag: u8, value: &[u8], out: &mut [u8]) -> u32
     ensures { λ r. ⌜ (r ≡ pointWritingRefusal tag (now (value .entry)) (length (now (out .entry)))) × (now (out .exit) ≡ pointWritingOut tag (now (value .entry)) (now (out .entry))) ⌝ }
 {
     let refusal = point_refusal(tag, value);
-    if refusal != values::refusals::ACCEPTED {
+    if refusal != heads::refusals::ACCEPTED {
         return refusal;
     }
     if out.len() < 3 + value.len() {
         return refusals::LENT_BYTES;
     }
     put_field(tag, value, out);
-    values::refusals::ACCEPTED
+    heads::refusals::ACCEPTED
 }

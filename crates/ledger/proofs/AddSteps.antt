@@ -10,16 +10,16 @@ use lib.ListN.{length, getD, replicate}
 use borrow.Author.Tests.{leb-false, eqb-true, not-false, eq-eqb, ne-eqb}
 use Rattle.numbers.specs.Refusals.{firstOf}
 use Rattle.numbers.proofs.Refusals.{testOf, untold, told, passed}
-use Rattle.values.specs.Heads.{contentRefusal}
-use Rattle.values.specs.Points.{Kind, kindOf, isUnknown, sizeOf, isUnfit, hasLarge, lacksDays, results}
+use Rattle.heads.specs.Heads.{contentRefusal}
+use Rattle.points.specs.Points.{Kind, kindOf, isUnknown, sizeOf, isUnfit, hasLarge, lacksDays, results}
 use Rattle.ledger.specs.Operations.{pointRefusal, addingRefusal, placesOf, resultsOf}
 use Rattle.ledger.specs.Steps.{earlyTests, earlyRefusal}
-use Rattle.values.specs.declared.Head.{Head}
+use Rattle.heads.specs.declared.Head.{Head}
 use Rattle.ledger.specs.declared.State.{State}
-use Rattle.values.specs.declared.results.Found.{Found}
-use Rattle.values.specs.Steps.{foundOf}
-use Rattle.values.proofs.Bounds.{opens}
-use Rattle.values.proofs.PointRows.{known-length}
+use Rattle.results.specs.declared.Found.{Found}
+use Rattle.results.specs.Steps.{foundOf}
+use Rattle.heads.proofs.Opening.{opens}
+use Rattle.points.proofs.PointRows.{known-length}
 use Rattle.ledger.proofs.Taking.{takes, result-small}
 use Rattle.ledger.proofs.Sound.{Sound, sound, adding-sound}
 use Rattle.ledger.proofs.TotalBounds.{total-small}

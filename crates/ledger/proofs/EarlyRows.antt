@@ -7,7 +7,7 @@ use lib.Dec.{leb, ltb, eqb}
 use borrow.Author.Tests.{eq-eqb, ne-eqb}
 use Rattle.numbers.specs.Refusals.{firstOf}
 use Rattle.numbers.specs.PointNumbers.{isNumber, below}
-use Rattle.values.specs.Points.{numberOf}
+use Rattle.points.specs.Points.{numberOf}
 use Rattle.ledger.specs.States.{isUnsound}
 use Rattle.ledger.specs.declared.State.{State}
 

@@ -8,10 +8,10 @@ use Rattle.numbers.specs.Integers.{sumℤ}
 use Rattle.numbers.specs.Words.{bytesOf}
 use Rattle.numbers.specs.PointNumbers.{digits, same, isNumber, below}
 use Rattle.calendar.specs.Dates.{isDate, dayCount}
-use Rattle.baseline.specs.Readings.{firstLarge, windowSums, slotSums, daySums, earlierUse}
+use Rattle.readings.specs.Readings.{firstLarge, windowSums, slotSums, daySums, earlierUse}
 use Rattle.baseline.specs.Choosing.{walk, lowest, used, chosen}
-use Rattle.values.specs.Heads.{headOf, contentRefusal, openingRefusal}
-use Rattle.values.specs.Points.{quotients}
+use Rattle.heads.specs.Heads.{headOf, contentRefusal, openingRefusal}
+use Rattle.points.specs.Points.{quotients}
 use Rattle.ledger.specs.States.{isUnsound}
 use Rattle.ledger.specs.Figures.{figuresOf}
 use Rattle.ledger.specs.Operations.{openOf, addingRefusal, addOf, placesOf}

@@ -18,7 +18,7 @@ use Rattle.numbers.specs.Lists.{any}
 use Rattle.numbers.specs.Integers.{floorDiv, divides, orZero, sumℤ}
 use Rattle.numbers.proofs.Differences.{by⊖, ⊖s}
 use Rattle.numbers.proofs.Floors.{rest, rest-<, rest-is, divides-rest}
-use Rattle.values.specs.Points.{Quotient, rounded}
+use Rattle.points.specs.Points.{Quotient, rounded}
 use Rattle.ledger.specs.Figures.{settledOf, shortfallOf}
 use Rattle.numbers.proofs.Tests.{every, every-cons}
 

@@ -15,21 +15,22 @@ use Rattle.numbers.specs.Refusals.{firstOf}
 use Rattle.numbers.specs.PointNumbers.{isNumber}
 use Rattle.numbers.proofs.Differences.{natAbs-+ℤ}
 use Rattle.calendar.specs.Dates.{isDate}
-use Rattle.values.specs.Limits.{mostResult}
-use Rattle.values.specs.Heads.{headOf, contentRefusal, openingRefusal}
-use Rattle.values.specs.Points.{numberOf}
+use Rattle.heads.specs.Limits.{mostResult}
+use Rattle.heads.specs.Heads.{headOf, contentRefusal, openingRefusal}
+use Rattle.points.specs.Points.{numberOf}
 use Rattle.ledger.specs.States.{opened, noState, isUnsound, plus, taken}
 use Rattle.ledger.specs.Figures.{figuresOf, noFigures}
 use Rattle.ledger.specs.Operations.{openOf, pointTests, pointRefusal, addingRefusal, resultsOf, addOf, closingRefusal, closeOf}
 use Rattle.ledger.specs.Account.{Call, adding, closing}
 use Rattle.ledger.specs.Demand3.{Reply, refused, accepted, closed, replyOf, replies, program}
-use Rattle.values.specs.declared.Head.{Head}
+use Rattle.heads.specs.declared.Head.{Head}
 use Rattle.ledger.specs.declared.State.{State}
 use Rattle.ledger.specs.declared.Opened.{Opened}
 use Rattle.ledger.specs.declared.Added.{Added}
 use Rattle.ledger.specs.declared.Closed.{Closed}
 use Rattle.numbers.proofs.Tests.{noneOf, none-cons, no-false}
-use Rattle.values.proofs.Bounds.{opening-content, opens, isBeyond}
+use Rattle.heads.proofs.Opening.{opening-content, opens}
+use Rattle.results.proofs.Bounds.{isBeyond}
 use Rattle.ledger.proofs.Taking.{takes, results-small}
 
 -- ---- the answers of the operations, by the refusal

@@ -13,10 +13,11 @@ use Rattle.numbers.specs.PointNumbers.{isNumber, below}
 use Rattle.numbers.proofs.Filling.{any-none}
 use Rattle.numbers.proofs.Refusals.{untold}
 use Rattle.numbers.proofs.Tests.{no-false, noneOf, any-map}
-use Rattle.values.specs.Limits.{mostResult}
-use Rattle.values.specs.Points.{Kind, kindOf, isUnknown, sizeOf, numberOf, isUnfit, hasLarge, lacksDays, quotients, rounded, results}
-use Rattle.values.specs.declared.Head.{Head}
-use Rattle.values.proofs.Bounds.{passed, Opens, isBeyond, small-by, six-by}
+use Rattle.heads.specs.Limits.{mostResult}
+use Rattle.points.specs.Points.{Kind, kindOf, isUnknown, sizeOf, numberOf, isUnfit, hasLarge, lacksDays, quotients, rounded, results}
+use Rattle.heads.specs.declared.Head.{Head}
+use Rattle.heads.proofs.Opening.{passed, Opens}
+use Rattle.results.proofs.Bounds.{isBeyond, small-by, six-by}
 use Rattle.ledger.specs.Operations.{pointTests, pointRefusal}
 
 pub record Takes (h : Head) (marks : List ℕ) (points : ℕ) (last : List ℕ) (kind : Kind) (value : List ℕ) (places : ℕ) : Type 0 where

@@ -5,10 +5,11 @@ use native.Mathlib.Omega.{arith}
 use lib.Dec.{T, nltb→le}
 use lib.IntN.{ℤ, pos, natAbs}
 use lib.ListN.{getD}
-use Rattle.values.specs.Limits.{mostResult}
+use Rattle.heads.specs.Limits.{mostResult}
 use Rattle.ledger.specs.declared.State.{State}
 use Rattle.numbers.proofs.Tests.{noneOf, none-cons}
-use Rattle.values.proofs.Bounds.{isBeyond, opens}
+use Rattle.heads.proofs.Opening.{opens}
+use Rattle.results.proofs.Bounds.{isBeyond}
 use Rattle.ledger.proofs.Sound.{Sound}
 
 -- each of some totals, none of which is beyond a limit

@@ -8,10 +8,10 @@ use lib.Dec.{ltb, eqb}
 use lib.IntN.{ℤ, pos, _+ℤ_, _-ℤ_, _*ℤ_}
 use lib.ListN.{getD, replicate}
 use Rattle.numbers.specs.Integers.{orZero, sumℤ}
-use Rattle.values.specs.Heads.{headOf, openingRefusal}
-use Rattle.values.specs.Points.{Quotient, kindOf, numberOf, quotients}
+use Rattle.heads.specs.Heads.{headOf, openingRefusal}
+use Rattle.points.specs.Points.{Quotient, kindOf, numberOf, quotients}
 use Rattle.ledger.specs.Operations.{pointRefusal}
-use Rattle.values.specs.declared.Head.{Head}
+use Rattle.heads.specs.declared.Head.{Head}
 
 -- A call after the opening. An adding is given a tag, a value and a number of lent places.
 pub data Call : Type 0 where

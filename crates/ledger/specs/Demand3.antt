@@ -11,11 +11,11 @@ use lib.Signed.{leZ}
 use lib.ListN.{length}
 use Rattle.numbers.specs.Lists.{any, gather}
 use Rattle.numbers.specs.Integers.{divides, sumℤ}
-use Rattle.values.specs.Heads.{headOf}
-use Rattle.values.specs.Points.{Point, Kind, consumer, generator, unknown, Quotient, kindOf, quotients, rounded}
+use Rattle.heads.specs.Heads.{headOf}
+use Rattle.points.specs.Points.{Point, Kind, consumer, generator, unknown, Quotient, kindOf, quotients, rounded}
 use Rattle.ledger.specs.Operations.{openOf, addOf, closeOf}
 use Rattle.ledger.specs.Account.{Call, adding, closing, Account, opening, takes, after, Said, partsOfkW, partsOfWatt, partsOfWh, account}
-use Rattle.values.specs.declared.Head.{Head}
+use Rattle.heads.specs.declared.Head.{Head}
 use Rattle.ledger.specs.declared.State.{State}
 use Rattle.ledger.specs.declared.Figures.{Figures}
 

@@ -5,7 +5,7 @@ use Prim.Native.Nat.{ℕ, _-_, min}
 use lib.Dec.{leb}
 use lib.IntN.{ℤ, pos, _-ℤ_}
 use Rattle.numbers.specs.Integers.{floorDiv, orZero, sumℤ}
-use Rattle.values.specs.Limits.{leastBid}
+use Rattle.heads.specs.Limits.{leastBid}
 use Rattle.ledger.specs.declared.Figures.{Figures}
 
 -- 'total ÷ 3,000, rounded toward minus infinity, in kW'

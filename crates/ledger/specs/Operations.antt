@@ -7,11 +7,11 @@ use lib.IntN.{ℤ}
 use lib.ListN.{length}
 use Rattle.numbers.specs.Refusals.{firstOf}
 use Rattle.numbers.specs.PointNumbers.{isNumber, below}
-use Rattle.values.specs.Heads.{headOf, openingRefusal}
-use Rattle.values.specs.Points.{kindOf, isUnknown, sizeOf, numberOf, isUnfit, hasLarge, lacksDays, results}
+use Rattle.heads.specs.Heads.{headOf, openingRefusal}
+use Rattle.points.specs.Points.{kindOf, isUnknown, sizeOf, numberOf, isUnfit, hasLarge, lacksDays, results}
 use Rattle.ledger.specs.States.{opened, noState, isUnsound, taken}
 use Rattle.ledger.specs.Figures.{figuresOf, noFigures}
-use Rattle.values.specs.declared.Head.{Head}
+use Rattle.heads.specs.declared.Head.{Head}
 use Rattle.ledger.specs.declared.State.{State}
 use Rattle.ledger.specs.declared.Opened.{Opened}
 use Rattle.ledger.specs.declared.Added.{Added}

@@ -7,9 +7,9 @@ use lib.IntN.{ℤ, pos, natAbs, _+ℤ_}
 use lib.ListN.{replicate}
 use Rattle.numbers.specs.Lists.{any}
 use Rattle.numbers.specs.PointNumbers.{isNumber}
-use Rattle.values.specs.Limits.{mostResult}
-use Rattle.values.specs.Heads.{contentRefusal}
-use Rattle.values.specs.declared.Head.{Head}
+use Rattle.heads.specs.Limits.{mostResult}
+use Rattle.heads.specs.Heads.{contentRefusal}
+use Rattle.heads.specs.declared.Head.{Head}
 use Rattle.ledger.specs.declared.State.{State}
 
 -- 'a state with no points, totals 0 and twenty-two digits 0 as last number'

@@ -10,8 +10,7 @@ ghost use Rattle.ledger.specs.States.{isUnsound};
 ghost use Rattle.ledger.specs.Steps.{earlyRefusal};
 use crate::State;
 use crate::states;
-use values::points;
-use values::refusals;
+use heads::refusals;
 
 // A number that is not allowed, or not above the last one; the first point has none before it.
 pub fn number_refusal(number: &[u8], points: u32, last: [u8; 22]) -> u32

@@ -7,11 +7,8 @@ pub mod closing;
 pub mod states;
 pub mod totals;
 
-use values::Head;
-use values::heads;
-use values::points;
-use values::refusals;
-use values::results;
+use heads::Head;
+use heads::refusals;
 
 // The settlement state. It goes in and comes back by value, and no field of it is trusted.
 pub struct State {

@@ -7,8 +7,7 @@ ghost use lib.IntN.{ℤ, natAbs};
 ghost use Rattle.numbers.specs.Lists.{any};
 ghost use Rattle.ledger.specs.States.{opened, noState, isUnsound};
 use crate::State;
-use values::Head;
-use values::heads;
+use heads::Head;
 
 // The state that an accepted opening gives.
 pub fn opened_state(head: Head, marks: [u8; 30]) -> State

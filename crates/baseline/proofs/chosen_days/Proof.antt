@@ -5,7 +5,8 @@ use Rattle.calendar.specs.Eligible.{isEligible}
 use Rattle.baseline.specs.Baseline.{chosenDays}
 use Rattle.baseline.specs.Days.{choice}
 use Rattle.baseline.proofs.Flags.{flags-filter}
-use Rattle.baseline.proofs.Bounds.{window-sums-bound, chosen-days-back, choice-back}
+use Rattle.readings.proofs.Bounds.{window-sums-bound}
+use Rattle.baseline.proofs.Bounds.{chosen-days-back, choice-back}
 use Rattle.baseline.proofs.chosen_days.Statement.{statement}
 use Rattle.baseline.proofs.chosen_days.Tie as tie
 

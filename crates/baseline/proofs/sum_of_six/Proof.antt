@@ -1,7 +1,7 @@
 -- `sum_of_six` meets its contract. Assumes nothing.
 use native.Mathlib.Omega.{arith}
 use borrow.Author.Needs.{needs}
-use Rattle.baseline.proofs.Sums.{six-places}
+use Rattle.readings.proofs.Sums.{six-places}
 use Rattle.baseline.proofs.sum_of_six.Statement.{statement}
 use Rattle.baseline.proofs.sum_of_six.Tie as tie
 

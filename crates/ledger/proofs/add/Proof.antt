@@ -4,7 +4,7 @@ use Prim.Native.Nat.{ℕ}
 use native.Mathlib.Omega.{arith}
 use lib.ListN.{length}
 use borrow.Author.Tests.{not-true, not-false}
-use Rattle.values.specs.Points.{kindOf}
+use Rattle.points.specs.Points.{kindOf}
 use Rattle.ledger.specs.States.{taken}
 use Rattle.ledger.specs.Operations.{addingRefusal}
 use Rattle.ledger.proofs.Sound.{add-good, add-bad}
@@ -15,10 +15,10 @@ use Rattle.ledger.proofs.add.Tie as tie
 use Rattle.ledger.proofs.add.Reads as reads
 use Rattle.ledger.proofs.add.Lts as lts
 use Rattle.ledger.proofs.adding.early_refusal.Reads as early-refusal-reads
-use Rattle.values.proofs.points.number_of.Reads as number-of-reads
+use Rattle.points.proofs.number_of.Reads as number-of-reads
 use Rattle.ledger.proofs.totals.add_totals.Reads as add-totals-reads
 use Rattle.ledger.proofs.totals.put.Reads as put-reads
-use Rattle.values.proofs.results.results_of.Reads as results-of-reads
+use Rattle.results.proofs.results_of.Reads as results-of-reads
 
 -- src/lib.rt:119:9
 early-refusal-requires : tie.Need-early-refusal-requires

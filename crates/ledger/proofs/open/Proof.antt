@@ -1,15 +1,15 @@
 -- A refused opening gives the state of zeros, an accepted one the state that its bytes say.
 use mathlib.Core.Path.{_≡_, sym, _∙_}
-use Rattle.values.proofs.Bounds.{opening-lengths}
+use Rattle.heads.proofs.Opening.{opening-lengths}
 use Rattle.ledger.proofs.Sound.{open-good, open-bad}
 use borrow.Author.Needs.{needs}
 use Rattle.ledger.proofs.open.Statement.{statement}
 use Rattle.ledger.proofs.open.Tie as tie
 use Rattle.ledger.proofs.open.Reads as reads
 use Rattle.ledger.proofs.open.Lts as lts
-use Rattle.values.proofs.heads.head_of.Reads as head-of-reads
-use Rattle.values.proofs.heads.marks_of.Reads as marks-of-reads
-use Rattle.values.proofs.heads.opening_refusal.Reads as opening-refusal-reads
+use Rattle.heads.proofs.head_of.Reads as head-of-reads
+use Rattle.heads.proofs.marks_of.Reads as marks-of-reads
+use Rattle.heads.proofs.opening_refusal.Reads as opening-refusal-reads
 use Rattle.ledger.proofs.states.no_state.Reads as no-state-reads
 use Rattle.ledger.proofs.states.opened_state.Reads as opened-state-reads
 

@@ -16,7 +16,7 @@ use Rattle.numbers.specs.Lists.{sum, filter}
 use Rattle.calendar.specs.Eligible.{ofDay}
 use Rattle.baseline.proofs.Rising.{rising-at}
 use Rattle.baseline.proofs.Keeping.{keep-yes, keep-no, put-day, same-here, same-further, same-written}
-use Rattle.baseline.proofs.Sums.{sum-days, sum-drop, sum-drop-end}
+use Rattle.readings.proofs.Sums.{sum-days, sum-drop, sum-drop-end}
 use Rattle.baseline.proofs.choosing.keep.Statement.{statement}
 use Rattle.baseline.proofs.choosing.keep.Tie as tie
 use Rattle.baseline.proofs.choosing.keep.Reads as reads

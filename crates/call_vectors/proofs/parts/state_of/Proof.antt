@@ -8,7 +8,7 @@ use lib.ListN.{take, drop, length-take}
 use lib.Seq.{take-all}
 use Rattle.numbers.specs.Lists.{run}
 use Rattle.numbers.specs.Words.{word32}
-use Rattle.values.specs.declared.Head.{Head}
+use Rattle.heads.specs.declared.Head.{Head}
 use Rattle.call_vectors.specs.Parts.{signedIn, headIn, stateIn}
 use Rattle.call_vectors.proofs.parts.state_of.Statement.{statement}
 use Rattle.call_vectors.proofs.parts.state_of.Tie as tie

@@ -6,7 +6,7 @@ use Rattle.fields.proofs.cutting.is_tag.Statement.{statement}
 use Rattle.fields.proofs.cutting.is_tag.Tie as tie
 use Rattle.fields.proofs.cutting.is_tag.Reads as reads
 use Rattle.fields.proofs.cutting.is_tag.Lts as lts
-use Rattle.values.proofs.points.is_unknown_tag.Reads as is-unknown-tag-reads
+use Rattle.points.proofs.is_unknown_tag.Reads as is-unknown-tag-reads
 
 -- src/fields.rt:27:22
 enum-told : tie.Need-enum-told

@@ -1,12 +1,12 @@
 -- By what is due; no value is longer than a consumer.
-use Rattle.values.specs.Points.{kindOf}
+use Rattle.points.specs.Points.{kindOf}
 use Rattle.fields.proofs.Headers.{kind-small}
 use borrow.Author.Needs.{needs}
 use Rattle.fields.proofs.cutting.length_due.Statement.{statement}
 use Rattle.fields.proofs.cutting.length_due.Tie as tie
 use Rattle.fields.proofs.cutting.length_due.Reads as reads
 use Rattle.fields.proofs.cutting.length_due.Lts as lts
-use Rattle.values.proofs.points.value_length.Reads as value-length-reads
+use Rattle.points.proofs.value_length.Reads as value-length-reads
 
 -- src/fields.rt:38:22
 enum-told : tie.Need-enum-told

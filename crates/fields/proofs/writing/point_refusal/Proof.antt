@@ -3,15 +3,15 @@ use mathlib.Core.Path.{_≡_, sym, ap, _∙_}
 use mathlib.Core.Bool.{not}
 use native.Mathlib.Omega.{arith}
 use borrow.Author.Tests.{not-true, not-false}
-use Rattle.values.proofs.PointRows.{right-length, long-enough}
+use Rattle.points.proofs.PointRows.{right-length, long-enough}
 use Rattle.fields.proofs.WritingRows.{form-told, number-told, number-passed}
 use borrow.Author.Needs.{needs}
 use Rattle.fields.proofs.writing.point_refusal.Statement.{statement}
 use Rattle.fields.proofs.writing.point_refusal.Tie as tie
 use Rattle.fields.proofs.writing.point_refusal.Reads as reads
 use Rattle.fields.proofs.writing.point_refusal.Lts as lts
-use Rattle.values.proofs.points.form_refusal.Reads as form-refusal-reads
-use Rattle.values.proofs.points.value_refusal.Reads as value-refusal-reads
+use Rattle.points.proofs.form_refusal.Reads as form-refusal-reads
+use Rattle.points.proofs.value_refusal.Reads as value-refusal-reads
 use Rattle.numbers.proofs.is_number.Reads as is-number-reads
 
 -- src/writing.rt:47:9

@@ -3,7 +3,7 @@ use mathlib.Core.Path.{_≡_, refl, sym, ap, _∙_}
 use Prim.Native.Nat.{_+_, _-_, _≤_}
 use native.Mathlib.Omega.{arith}
 use lib.ListN.{length, take, drop, length-drop, length-take}
-use Rattle.values.proofs.Bounds.{opening-lengths}
+use Rattle.heads.proofs.Opening.{opening-lengths}
 use Rattle.fields.proofs.Storing.{head-refused, head-room, head-written, head-length, two-fields}
 use borrow.Author.Needs.{needs}
 use Rattle.fields.proofs.writing.write_head.Statement.{statement}
@@ -11,7 +11,7 @@ use Rattle.fields.proofs.writing.write_head.Tie as tie
 use Rattle.fields.proofs.writing.write_head.Reads as reads
 use Rattle.fields.proofs.writing.write_head.Lts as lts
 use Rattle.fields.proofs.writing.put_field.Reads as put-field-reads
-use Rattle.values.proofs.heads.opening_refusal.Reads as opening-refusal-reads
+use Rattle.heads.proofs.opening_refusal.Reads as opening-refusal-reads
 
 -- src/writing.rt:33:9
 opening-refusal-requires : tie.Need-opening-refusal-requires

@@ -4,17 +4,17 @@ use mathlib.Core.List.{_∷_, _++_}
 use native.Mathlib.Omega.{arith}
 use Rattle.numbers.proofs.Refusals.{told, passed}
 use Rattle.ledger.specs.Steps.{earlyRefusal}
-use Rattle.values.proofs.PointRows.{formRows, valueRows, right-length, long-enough}
+use Rattle.points.proofs.PointRows.{formRows, valueRows, right-length, long-enough}
 use Rattle.ledger.proofs.EarlyRows.{standingRows, placesRow, numberRows, six-told, six-passed}
 use borrow.Author.Needs.{needs}
 use Rattle.ledger.proofs.adding.early_refusal.Statement.{statement}
 use Rattle.ledger.proofs.adding.early_refusal.Tie as tie
 use Rattle.ledger.proofs.adding.early_refusal.Reads as reads
 use Rattle.ledger.proofs.adding.early_refusal.Lts as lts
-use Rattle.values.proofs.points.form_refusal.Reads as form-refusal-reads
+use Rattle.points.proofs.form_refusal.Reads as form-refusal-reads
 use Rattle.ledger.proofs.adding.number_refusal.Reads as number-refusal-reads
 use Rattle.ledger.proofs.adding.state_refusal.Reads as state-refusal-reads
-use Rattle.values.proofs.points.value_refusal.Reads as value-refusal-reads
+use Rattle.points.proofs.value_refusal.Reads as value-refusal-reads
 
 -- src/adding.rt:80:9
 state-refusal-requires : tie.Need-state-refusal-requires

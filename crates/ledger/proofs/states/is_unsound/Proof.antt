@@ -9,7 +9,7 @@ use Rattle.ledger.proofs.states.is_unsound.Statement.{statement}
 use Rattle.ledger.proofs.states.is_unsound.Tie as tie
 use Rattle.ledger.proofs.states.is_unsound.Reads as reads
 use Rattle.ledger.proofs.states.is_unsound.Lts as lts
-use Rattle.values.proofs.heads.content_refusal.Reads as content-refusal-reads
+use Rattle.heads.proofs.content_refusal.Reads as content-refusal-reads
 use Rattle.ledger.proofs.states.has_beyond.Reads as has-beyond-reads
 use Rattle.numbers.proofs.is_number.Reads as is-number-reads
 

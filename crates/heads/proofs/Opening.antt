@@ -1,0 +1,60 @@
+-- What an accepted opening shows. Assumes nothing.
+use mathlib.Core.Path.{_≡_, refl}
+use mathlib.Core.Bool.{Bool, false, not, _&&_}
+use mathlib.Core.List.{List, _∷_}
+use Prim.Native.Nat.{ℕ, _≤_}
+use lib.Dec.{T, leb, ltb, eqb}
+use lib.ListN.{length, getD}
+use mir.Facts.{and-yes, leb-yes, eqb-yes}
+use borrow.Author.Tests.{ltb-false, not-false}
+use Rattle.numbers.specs.Lists.{any}
+use Rattle.numbers.proofs.Filling.{any-none}
+use Rattle.numbers.proofs.Refusals.{testOf, untold, Within, within, clear-zero}
+use Rattle.heads.specs.Limits.{mostLoss, mostPoints}
+use Rattle.heads.specs.Heads.{headOf, contentTests, contentRefusal, openingTests, openingRefusal}
+use Rattle.heads.specs.declared.Head.{Head}
+
+-- a row's test, which tells what is wrong, as a fact
+pub passed : (test : Bool) → not test ≡ false → T test
+passed test e = rw (not-false test e) tt
+
+pub both : (a b : Bool) → not (a && b) ≡ false → T a × T b
+both a b e = and-yes a b (passed (a && b) e)
+
+pub record Opens (h : Head) : Type 0 where
+  pub first-slot : 18 ≤ h .slot
+  pub last-slot : h .slot ≤ 34
+  pub losses : (i : ℕ) → getD (h .losses) i 0 ≤ mostLoss
+  pub some-points : 1 ≤ h .count
+  pub most-points : h .count ≤ mostPoints
+
+pub opens : (h : Head) (marks : List ℕ) → contentRefusal h marks ≡ 0 → Opens h
+unfolding contentRefusal
+opens h marks e =
+    let c = untold (contentTests h marks) tt e in
+    let slots = both (leb 18 (h .slot)) (leb (h .slot) 34) (c 4) in
+    let points = both (leb 1 (h .count)) (leb (h .count) mostPoints) (c 7) in
+    record {
+      first-slot = leb-yes (slots .0);
+      last-slot = leb-yes (slots .1);
+      losses = λ i. ltb-false _ _ (any-none (λ loss. ltb mostLoss loss) 0 refl (h .losses) (c 5) i);
+      some-points = leb-yes (points .0);
+      most-points = leb-yes (points .1);
+    }
+
+module _ (head calendar : List ℕ) (accepted : openingRefusal head calendar ≡ 0) where
+  opening-untold : (n : ℕ) → testOf n (openingTests head calendar) ≡ false
+  unfolding openingRefusal
+  opening-untold = untold (openingTests head calendar) tt accepted
+
+  pub opening-lengths : (length head ≡ 17) × (length calendar ≡ 30)
+  opening-lengths =
+      let t = both (eqb (length head) 17) (eqb (length calendar) 30) (opening-untold 1) in
+      (eqb-yes (t .0), eqb-yes (t .1))
+
+  pub opening-content : contentRefusal (headOf head) calendar ≡ 0
+  unfolding contentRefusal
+  opening-content =
+      let rows = contentTests (headOf head) calendar in
+      let w : Within rows (openingTests head calendar) = (refl, (refl, (refl, (refl, (refl, (refl, (refl, tt))))))) in
+      clear-zero rows (within rows (openingTests head calendar) w opening-untold)

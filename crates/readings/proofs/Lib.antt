@@ -1,0 +1,4 @@
+pub mod Sums
+pub mod Large
+pub mod Packing
+pub mod Bounds

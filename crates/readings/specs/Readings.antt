@@ -1,0 +1,49 @@
+-- A consumer's readings (document 01, 'The test book' and 'Days'): 1,488 of four bytes, the test day's 48, then days 1 to 30 back.
+use mathlib.Core.Bool.{Bool, cond}
+use mathlib.Core.List.{List, [], _∷_, map}
+use Prim.Native.Nat.{ℕ, zero, suc, _+_, _*_, _-_, _≤_}
+use lib.Dec.{ltb}
+use lib.ListN.{drop, getD}
+use Rattle.numbers.specs.Lists.{run, sum}
+use Rattle.numbers.specs.Words.{word32}
+
+-- Wh
+abbrev pub mostReading : ℕ
+mostReading = 1_000_000_000
+
+-- the place of the first of n readings that is above the limit, counted from 0, or n where none is
+unfoldable pub firstLarge : List ℕ → ℕ → ℕ
+firstLarge readings zero = 0
+firstLarge readings (suc n) = cond (ltb mostReading (word32 readings 0)) 0 (suc (firstLarge (drop 4 readings) n))
+
+-- slot i, 0 to 47, of day k back; day 0 is the test day
+abbrev pub reading : List ℕ → ℕ → ℕ → ℕ
+reading readings k i = word32 readings ((48 * k + i) * 4)
+
+-- The window is slots s to s + 5. 'A day's window sum is the sum of its six window readings.'
+abbrev pub windowSum : List ℕ → ℕ → ℕ → ℕ
+windowSum readings s k = sum (run (reading readings k) s 6)
+
+-- the window sums of days 1 to 30 back
+unfoldable pub windowSums : List ℕ → ℕ → List ℕ
+windowSums readings s = run (windowSum readings s) 1 30
+
+-- The earlier slots are s − 10 to s − 5: 'from five hours to two hours before it'.
+abbrev pub earlierSlot : ℕ → ℕ
+earlierSlot s = s - 10
+
+-- the six slots from slot i on, each over some days
+unfoldable pub slotSums : List ℕ → List ℕ → ℕ → List ℕ
+slotSums readings days i = run (λ slot. sum (map (λ k. reading readings k slot) days)) i 6
+
+-- 'six window sums and six earlier sums, each over the four chosen days'
+unfoldable pub daySums : List ℕ → List ℕ → ℕ → List (List ℕ)
+daySums readings days s = slotSums readings days s ∷ slotSums readings days (earlierSlot s) ∷ []
+
+-- 'the test day's six earlier readings together'
+unfoldable pub earlierUse : List ℕ → ℕ → ℕ
+earlierUse readings s = windowSum readings (earlierSlot s) 0
+
+-- days of which none is farther than thirty; past the last day stands 0
+abbrev pub Back : List ℕ → Type 0
+Back days = (i : ℕ) → getD days i 0 ≤ 30

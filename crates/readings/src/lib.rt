@@ -1,0 +1,216 @@
+// A consumer's readings, of four bytes each: the test day's 48, then those of days 1 to 30 back.
+ghost use mathlib.Core.Path.{_≡_};
+ghost use mathlib.Core.Bool.{_&&_};
+ghost use mathlib.Core.List.{map};
+ghost use Prim.Native.Nat.{_<_, _≤_, _+_, _-_, _*_, _/_, _%_};
+ghost use lib.Dec.{ltb};
+ghost use lib.ListN.{length, drop};
+ghost use Rattle.numbers.specs.Lists.{run, sum};
+ghost use Rattle.numbers.specs.Words.{word32};
+ghost use Rattle.readings.specs.Readings.{mostReading, firstLarge, reading, windowSum, windowSums, slotSums, daySums, earlierUse, Back};
+ghost use Rattle.readings.specs.Packed.{Passes};
+use numbers::word32_at;
+
+// Wh
+const MOST_READING: u32 = 1_000_000_000;
+
+// The first of n readings that is too large, from reading `start` on, or n.
+fn first_large_from(readings: &[u8], start: usize, n: usize) -> usize
+    requires { ⌜ (start ≤ n) × (n * 4 ≤ length (now readings)) ⌝ }
+    ensures { λ r. ⌜ r ≡ start + firstLarge (drop (start * 4) (now (readings .entry))) (n - start) ⌝ }
+{
+    let mut i = start;
+    while i < n {
+        if MOST_READING < word32_at(readings, i * 4) {
+            return i;
+        }
+        i += 1;
+    }
+    n
+}
+
+// The four bytes of a reading, its high byte lowest. Where that is small, so is the reading.
+fn turned(a: u8, b: u8, c: u8, d: u8) -> u32
+    ensures { λ r. ⌜ (r ≡ a + b * 256 + (c + d * 256) * 65536) × (r % 256 < 32 → (a * 256 + b) * 65536 + (c * 256 + d) ≤ mostReading) ⌝ }
+{
+    (a as u32) + (b as u32) * 256 + ((c as u32) + (d as u32) * 256) * 65536
+}
+
+fn one_packed(readings: &[u8], i: usize) -> u32
+    requires { ⌜ (i + 1) * 4 ≤ length (now readings) ⌝ }
+    ensures { λ r. ⌜ (r % 256 < 32 → firstLarge (drop (i * 4) (now (readings .entry))) 1 ≡ 1) ⌝ }
+{
+    let at = i * 4;
+    turned(
+        readings[at],
+        readings[at + 1],
+        readings[at + 2],
+        readings[at + 2 + 1],
+    )
+}
+
+// Two numbers side by side.
+fn beside(low: u32, high: u32) -> u64
+    ensures { λ r. ⌜ (r % 256 ≡ low % 256) × (r / 4294967296 % 256 ≡ high % 256) ⌝ }
+{
+    (low as u64) + (high as u64) * 4294967296
+}
+
+// Readings packed into one number, two side by side and the others over them by `|`. The compiler makes of it one load and one `or` for
+// four readings, with no test of each.
+fn two_packed(readings: &[u8], i: usize) -> u64
+    requires { ⌜ (i + 2) * 4 ≤ length (now readings) ⌝ }
+    ensures { λ r. ⌜ Passes (now (readings .entry)) i 2 r ⌝ }
+{
+    beside(one_packed(readings, i), one_packed(readings, i + 1))
+}
+
+fn four_packed(readings: &[u8], i: usize) -> u64
+    requires { ⌜ (i + 4) * 4 ≤ length (now readings) ⌝ }
+    ensures { λ r. ⌜ Passes (now (readings .entry)) i 4 r ⌝ }
+{
+    two_packed(readings, i) | two_packed(readings, i + 2)
+}
+
+fn eight_packed(readings: &[u8], i: usize) -> u64
+    requires { ⌜ (i + 8) * 4 ≤ length (now readings) ⌝ }
+    ensures { λ r. ⌜ Passes (now (readings .entry)) i 8 r ⌝ }
+{
+    four_packed(readings, i) | four_packed(readings, i + 4)
+}
+
+fn sixteen_packed(readings: &[u8], i: usize) -> u64
+    requires { ⌜ (i + 16) * 4 ≤ length (now readings) ⌝ }
+    ensures { λ r. ⌜ Passes (now (readings .entry)) i 16 r ⌝ }
+{
+    eight_packed(readings, i) | eight_packed(readings, i + 8)
+}
+
+// Whether the high bytes of packed readings are all below 32.
+fn is_small(packed: u64) -> bool
+    ensures { λ r. ⌜ r ≡ ltb (packed % 256) 32 && ltb (packed / 4294967296 % 256) 32 ⌝ }
+{
+    packed % 256 < 32 && packed / 4294967296 % 256 < 32
+}
+
+// The first of n readings that is too large, counted from 0, or n. Sixteen are passed at a time; where they are not all small, one by one.
+pub fn first_large(readings: &[u8], n: usize) -> usize
+    requires { ⌜ n * 4 ≤ length (now readings) ⌝ }
+    ensures { λ r. ⌜ r ≡ firstLarge (now (readings .entry)) n ⌝ }
+{
+    let mut i: usize = 0;
+    while 16 <= n - i {
+        if !is_small(sixteen_packed(readings, i)) {
+            let found = first_large_from(readings, i, i + 16);
+            if found < i + 16 {
+                return found;
+            }
+        }
+        i += 16;
+    }
+    first_large_from(readings, i, n)
+}
+
+// Six readings together: the casts are here, so that the caller need not show that they fit.
+fn sum6(a: u32, b: u32, c: u32, d: u32, e: u32, f: u32) -> u64
+    ensures { λ r. ⌜ r ≡ a + b + c + d + e + f ⌝ }
+{
+    (a as u64) + (b as u64) + (c as u64) + (d as u64) + (e as u64) + (f as u64)
+}
+
+// The six readings from reading `first` on, together.
+fn six_from(readings: &[u8], first: usize) -> u64
+    requires { ⌜ (first + 6) * 4 ≤ length (now readings) ⌝ }
+    ensures { λ r. ⌜ r ≡ sum (run (λ i. word32 (now (readings .entry)) (i * 4)) first 6) ⌝ }
+{
+    sum6(
+        word32_at(readings, first * 4),
+        word32_at(readings, (first + 1) * 4),
+        word32_at(readings, (first + 2) * 4),
+        word32_at(readings, (first + 3) * 4),
+        word32_at(readings, (first + 4) * 4),
+        word32_at(readings, (first + 5) * 4),
+    )
+}
+
+// The sum of a day's six readings from a slot on.
+fn window_sum(readings: &[u8], slot: usize, day: usize) -> u64
+    requires { ⌜ (length (now readings) ≡ 5952) × (slot ≤ 42) × (day ≤ 30) ⌝ }
+    ensures { λ r. ⌜ r ≡ windowSum (now (readings .entry)) slot day ⌝ }
+{
+    six_from(readings, 48 * day + slot)
+}
+
+// The window sums of days 1 to 30 back.
+pub fn window_sums(readings: &[u8], slot: usize) -> [u64; 30]
+    requires { ⌜ (length (now readings) ≡ 5952) × (slot ≤ 42) ⌝ }
+    ensures { λ r. ⌜ r ≡ windowSums (now (readings .entry)) slot ⌝ }
+{
+    let mut sums = [0u64; 30];
+    let mut k: usize = 0;
+    while k < 30 {
+        sums[k] = window_sum(readings, slot, k + 1);
+        k += 1;
+    }
+    sums
+}
+
+// The test day's six earlier readings together.
+pub fn earlier_use(readings: &[u8], slot: usize) -> u64
+    requires { ⌜ (length (now readings) ≡ 5952) × (10 ≤ slot) × (slot ≤ 42) ⌝ }
+    ensures { λ r. ⌜ r ≡ earlierUse (now (readings .entry)) slot ⌝ }
+{
+    window_sum(readings, slot - 10, 0)
+}
+
+// A day's reading in a slot.
+fn reading_of(readings: &[u8], day: usize, slot: usize) -> u32
+    requires { ⌜ (length (now readings) ≡ 5952) × (day ≤ 30) × (slot < 48) ⌝ }
+    ensures { λ r. ⌜ r ≡ reading (now (readings .entry)) day slot ⌝ }
+{
+    word32_at(readings, (48 * day + slot) * 4)
+}
+
+// Four readings together.
+fn sum4(a: u32, b: u32, c: u32, d: u32) -> u64
+    ensures { λ r. ⌜ r ≡ a + b + c + d ⌝ }
+{
+    (a as u64) + (b as u64) + (c as u64) + (d as u64)
+}
+
+// A slot over four days.
+fn slot_sum(readings: &[u8], days: [usize; 4], slot: usize) -> u64
+    requires { ⌜ (length (now readings) ≡ 5952) × (slot < 48) × Back days ⌝ }
+    ensures { λ r. ⌜ r ≡ sum (map (λ k. reading (now (readings .entry)) k slot) days) ⌝ }
+{
+    sum4(
+        reading_of(readings, days[0], slot),
+        reading_of(readings, days[1], slot),
+        reading_of(readings, days[2], slot),
+        reading_of(readings, days[3], slot),
+    )
+}
+
+// The six slots from one on, each over four days.
+fn slot_sums(readings: &[u8], days: [usize; 4], slot: usize) -> [u64; 6]
+    requires { ⌜ (length (now readings) ≡ 5952) × (slot ≤ 42) × Back days ⌝ }
+    ensures { λ r. ⌜ r ≡ slotSums (now (readings .entry)) days slot ⌝ }
+{
+    let mut sums = [0u64; 6];
+    let mut j: usize = 0;
+    while j < 6 {
+        sums[j] = slot_sum(readings, days, slot + j);
+        j += 1;
+    }
+    sums
+}
+
+// Six window sums and six earlier sums, each over four days.
+pub fn day_sums(readings: &[u8], days: [usize; 4], slot: usize) -> [[u64; 6]; 2]
+    requires { ⌜ (length (now readings) ≡ 5952) × (10 ≤ slot) × (slot ≤ 42) × Back days ⌝ }
+    ensures { λ r. ⌜ r ≡ daySums (now (readings .entry)) days slot ⌝ }
+{
+    let window = slot_sums(readings, days, slot);
+    let earlier = slot_sums(readings, days, slot - 10);
+    [window, earlier]
+}

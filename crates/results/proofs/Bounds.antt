@@ -1,0 +1,79 @@
+-- How large the slot results are. Assumes nothing.
+use mathlib.Core.Path.{_≡_}
+use mathlib.Core.Bool.{Bool, false, not, true≢false}
+use mathlib.Core.List.{List}
+use Prim.Native.Nat.{ℕ, _+_, _*_, _-_, _<_, _≤_}
+use native.Mathlib.Nat.{le-trans, le-antisymm}
+use native.Mathlib.Omega.{arith}
+use lib.Dec.{T, ltb}
+use lib.IntN.{ℤ, pos, natAbs, _-ℤ_}
+use lib.ListN.{length}
+use mir.Facts.{no-ltb}
+use borrow.Author.Tests.{ltb-false}
+use Rattle.numbers.specs.Lists.{any}
+use Rattle.numbers.proofs.Filling.{run-length}
+use Rattle.numbers.proofs.Differences.{⊖s}
+use Rattle.numbers.proofs.Floors.{natAbs-floor, slot-bound}
+use Rattle.readings.specs.Readings.{mostReading, firstLarge, daySums, earlierUse}
+use Rattle.baseline.specs.Baseline.{chosenDays, baseline}
+use Rattle.readings.proofs.Large.{none-large, first-bound}
+use Rattle.readings.proofs.Bounds.{reading-bound, earlier-use-bound, day-sums-bound}
+use Rattle.baseline.proofs.Bounds.{chosen-days-back, chosen-days-four}
+use Rattle.heads.specs.Limits.{mostLoss, mostBaseline, mostResult}
+use Rattle.heads.specs.Heads.{testDay}
+use Rattle.heads.proofs.Opening.{Opens}
+use Rattle.points.specs.Points.{Kind, consumer, generator, unknown, isUnknown, isUnfit, hasLarge, readingsOf, readingCount, lossOf, baselineOf, consumerQuotient, generatorQuotient, quotients, rounded}
+use Rattle.heads.specs.declared.Head.{Head}
+use Rattle.numbers.proofs.Tests.{noneOf, none-run}
+
+-- 17 was not told
+pub all-tested : (kind : Kind) (value : List ℕ) → hasLarge kind value ≡ false → firstLarge (readingsOf kind value) (readingCount kind) ≡ readingCount kind
+all-tested kind value e =
+    let readings = readingsOf kind value in
+    let n = readingCount kind in
+    le-antisymm (first-bound readings n) (ltb-false (firstLarge readings n) n e)
+
+-- ---- slot results
+
+-- beyond a limit on either side of zero
+abbrev pub isBeyond : ℕ → ℤ → Bool
+isBeyond most z = ltb most (natAbs z)
+
+baseline-small : (readings : List ℕ) → firstLarge readings 1488 ≡ 1488 → (test : ℕ) (marks : List ℕ) (s j : ℕ) → s ≤ 34
+    → baseline (daySums readings (chosenDays test marks readings s) s) (earlierUse readings s) j ≤ 48 * mostReading
+baseline-small readings fits test marks s j h =
+    let days = chosenDays test marks readings s in
+    omega (
+      arith,
+      day-sums-bound readings fits days (chosen-days-four test marks readings s) (chosen-days-back test marks readings s) s (omega arith) 0 j,
+      earlier-use-bound readings fits s (omega arith),
+    )
+
+consumer-small : (loss base used : ℕ) → loss ≤ mostLoss → base ≤ 48 * mostReading → used ≤ mostReading
+    → natAbs (rounded (consumerQuotient loss base used)) ≤ mostResult
+consumer-small loss base used hl hb hu = slot-bound base used (10_000 - loss) hb hu (omega arith)
+
+generator-small : (kW metered : ℕ) → kW ≤ mostBaseline → metered ≤ mostReading → natAbs (rounded (generatorQuotient kW metered)) ≤ mostResult
+generator-small kW metered hk hm = le-trans (natAbs-floor (pos metered -ℤ pos (500 * kW)) 1) (go metered (500 * kW) (omega arith) (omega arith))
+  where
+    go : (a b : ℕ) → a ≤ 1_000_000_000 → b ≤ 500_000_000 → natAbs (pos a -ℤ pos b) ≤ 4_000_000_000
+    go a b ha hb = simp ⊖s (omega arith)
+
+-- A line for each kind of point.
+pub small-by : (h : Head) (marks : List ℕ) → Opens h → (kind : Kind) (value : List ℕ) → isUnfit kind value ≡ false → hasLarge kind value ≡ false
+    → T (noneOf (λ q. isBeyond mostResult (rounded q)) (quotients h marks kind value))
+unfolding quotients any
+small-by h marks o consumer value fit small = none-run (λ q. isBeyond mostResult (rounded q)) _ 0 6 λ j l.
+    let tested = all-tested consumer value small in
+    no-ltb (consumer-small (lossOf h value) _ _ (o .losses _)
+    (baseline-small (readingsOf consumer value) tested (testDay h) marks (h .slot) (0 + j) (o .last-slot))
+    (reading-bound (readingsOf consumer value) tested 0 (h .slot + (0 + j)) (omega arith) (omega arith)))
+small-by h marks o generator value fit small = none-run (λ q. isBeyond mostResult (rounded q)) _ 0 6 λ j l.
+    no-ltb (generator-small (baselineOf value) _ (ltb-false _ _ fit) (none-large (readingsOf generator value) 6 (0 + j) (all-tested generator value small) (omega arith)))
+small-by h marks o unknown value fit small = tt
+
+pub six-by : (h : Head) (marks : List ℕ) (kind : Kind) (value : List ℕ) → isUnknown kind ≡ false → length (quotients h marks kind value) ≡ 6
+unfolding quotients
+six-by h marks consumer value e = run-length _ 0 6
+six-by h marks generator value e = run-length _ 0 6
+six-by h marks unknown value e = absurd (true≢false e)

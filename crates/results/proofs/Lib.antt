@@ -1,0 +1,3 @@
+pub mod SlotResults
+pub mod ConsumerDays
+pub mod Bounds

@@ -1,0 +1,41 @@
+-- Slot results as the code works them out. Assumes nothing.
+use mathlib.Core.Path.{_≡_, refl, ap, _∙_}
+use mathlib.Core.List.{List, map}
+use Prim.Native.Nat.{ℕ, zero, suc, _+_, _*_}
+use native.Mathlib.Nat.{add-assoc}
+use native.Mathlib.Omega.{arith}
+use lib.IntN.{ℤ, pos, negsuc, _-ℤ_, _*ℤ_}
+use lib.ListN.{drop}
+use lib.Seq.{getD-drop}
+use Rattle.numbers.specs.Lists.{run}
+use Rattle.numbers.specs.Integers.{floorDiv}
+use Rattle.numbers.specs.Words.{word32}
+use Rattle.numbers.proofs.Differences.{⊖s}
+use Rattle.points.specs.Points.{generator, baselineOf, generatorQuotient, quotients, rounded, results}
+use Rattle.heads.specs.declared.Head.{Head}
+
+-- multiplied first and subtracted then, or the other way round
+pub scaled : (b u : ℕ) → pos (10_000 * b) -ℤ pos (240_000 * u) ≡ (pos b -ℤ pos (24 * u)) *ℤ pos 10_000
+scaled b u = simp ⊖s (omega arith)
+
+pub floor-one : (z : ℤ) → floorDiv z 1 ≡ z
+floor-one (pos n) = ap pos (omega arith)
+floor-one (negsuc n) = ap negsuc (omega arith)
+
+pub map-run {ℓ κ} : {A : Type ℓ} {B : Type κ} (f : A → B) (g : ℕ → A) (i n : ℕ) → map f (run g i n) ≡ run (λ j. f (g j)) i n
+unfolding run
+map-run f g i zero = refl
+map-run f g i (suc n) = rw (map-run f g (suc i) n)
+
+word32-drop : (v : List ℕ) (n at : ℕ) → word32 (drop n v) at ≡ word32 v (n + at)
+word32-drop v n at = simp (getD-drop, add-assoc)
+
+-- the results of a generator's value, slot by slot
+abbrev pub generatorAt : List ℕ → ℕ → ℤ
+generatorAt v j = rounded (generatorQuotient (baselineOf v) (word32 v (26 + j * 4)))
+
+pub generator-results : (h : Head) (marks v : List ℕ) → results h marks generator v ≡ run (generatorAt v) 0 6
+unfolding quotients
+generator-results h marks v =
+    map-run rounded (λ j. generatorQuotient (baselineOf v) (word32 (drop 26 v) (j * 4))) 0 6
+    ∙ simp (word32-drop v 26)

@@ -1,5 +1,0 @@
-pub mod Ranges
-pub mod SlotResults
-pub mod ConsumerDays
-pub mod PointRows
-pub mod Bounds

@@ -1,4 +1,0 @@
-pub mod Limits
-pub mod Heads
-pub mod Points
-pub mod Steps
