@@ -17,7 +17,7 @@ use ledger::Figures;
 use ledger::State;
 
 // A refused reading.
-pub fn refused(refusal: u32) -> Ending
+fn refused(refusal: u32) -> Ending
     ensures { λ r. ⌜ r ≡ refusedWith refusal ⌝ }
 {
     let state = ledger::states::no_state();
@@ -59,7 +59,7 @@ fn read_points(opened: State, book: &[u8], start: usize) -> Ending
 }
 
 // A whole book.
-pub fn read(book: &[u8]) -> Ending
+fn read(book: &[u8]) -> Ending
     ensures { λ r. ⌜ r ≡ bookEnding (readBook (now (book .entry))) ⌝ }
 {
     let head = cutting::cut(Due::Head, book);

@@ -13,10 +13,10 @@ use crate::refusals;
 pub fn refusal_of(field: Field) -> u32
     ensures { λ r. ⌜ r ≡ refusalOf field ⌝ }
 {
-    let Field::Refused(refusal) = field else {
-        return heads::refusals::ACCEPTED;
-    };
-    refusal
+    match field {
+        Field::Value(_, _) => heads::refusals::ACCEPTED,
+        Field::Refused(refusal) => refusal,
+    }
 }
 
 // Whether a tag may stand where a field is due.

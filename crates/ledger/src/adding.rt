@@ -13,7 +13,7 @@ use crate::states;
 use heads::refusals;
 
 // A number that is not allowed, or not above the last one; the first point has none before it.
-pub fn number_refusal(number: &[u8], points: u32, last: [u8; 22]) -> u32
+fn number_refusal(number: &[u8], points: u32, last: [u8; 22]) -> u32
     ensures { λ r. ⌜ r ≡ firstOf ((not (isNumber (now (number .entry))), 14) ∷ (ltb 0 points && not (below last (now (number .entry))), 15) ∷ []) ⌝ }
 {
     if !numbers::is_number(number) {

@@ -2,10 +2,10 @@ ghost use mathlib.Core.Path.{_≡_};
 ghost use lib.ListN.{length};
 ghost use Rattle.ledger.specs.Operations.{openOf, addOf, placesOf, closeOf};
 
-pub mod adding;
-pub mod closing;
+mod adding;
+mod closing;
 pub mod states;
-pub mod totals;
+mod totals;
 
 use heads::Head;
 use heads::refusals;

@@ -14,13 +14,6 @@ pub fn big16(a: u8, b: u8) -> u16
     (a as u16) * 256 + (b as u16)
 }
 
-// Four bytes, high byte first.
-pub fn big32(a: u8, b: u8, c: u8, d: u8) -> u32
-    ensures { λ r. ⌜ r ≡ (a * 256 + b) * 65536 + (c * 256 + d) ⌝ }
-{
-    ((a as u32) * 256 + (b as u32)) * 65536 + ((c as u32) * 256 + (d as u32))
-}
-
 // The number in the two bytes at a place.
 pub fn word16_at(bytes: &[u8], at: usize) -> u16
     requires { ⌜ at + 2 ≤ length (now bytes) ⌝ }

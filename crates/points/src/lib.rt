@@ -61,7 +61,7 @@ pub fn loss_of(losses: [u16; 3], class: u8) -> u16
 }
 
 // A class or a baseline that is not allowed.
-pub fn is_unfit(tag: u8, value: &[u8]) -> bool
+fn is_unfit(tag: u8, value: &[u8]) -> bool
     requires { ⌜ length (now value) ≡ sizeOf (kindOf tag) ⌝ }
     ensures { λ r. ⌜ r ≡ isUnfit (kindOf tag) (now (value .entry)) ⌝ }
 {
@@ -73,7 +73,7 @@ pub fn is_unfit(tag: u8, value: &[u8]) -> bool
 }
 
 // A reading above the limit, used or not.
-pub fn has_large(tag: u8, value: &[u8]) -> bool
+fn has_large(tag: u8, value: &[u8]) -> bool
     requires { ⌜ length (now value) ≡ sizeOf (kindOf tag) ⌝ }
     ensures { λ r. ⌜ r ≡ hasLarge (kindOf tag) (now (value .entry)) ⌝ }
 {

@@ -56,7 +56,7 @@ fn consumer_results(loss: u16, readings: &[u8], days: [usize; 4], slot: usize) -
 }
 
 // The six results of a generator's value, whatever the head and the calendar.
-pub fn generator_results(value: &[u8]) -> [i64; 6]
+fn generator_results(value: &[u8]) -> [i64; 6]
     requires { ⌜ (length (now value) ≡ 50) × (baselineOf (now value) ≤ mostBaseline) ⌝ }
     ensures { λ r. ⌜ ((h : Head) (marks : List ℕ) → r ≡ results h marks generator (now (value .entry))) ⌝ }
 {
