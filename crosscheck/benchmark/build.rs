@@ -27,11 +27,18 @@ fn compile_plain_pass() {
     println!("cargo:rerun-if-changed=plain_pass.c");
 }
 
+/// The optimisation and what the command adds to it.
+fn rust_flags() -> String {
+    let level = env::var("OPT_LEVEL").expect("OPT_LEVEL");
+    let more = env::var("CARGO_ENCODED_RUSTFLAGS").unwrap_or_default();
+    format!("opt-level={level} {}", more.replace('\u{1f}', " "))
+}
+
 fn main() {
     archive::link();
     compile_plain_pass();
     println!("cargo:rustc-env=PLAIN_PASS_FLAGS={}", PLAIN_PASS_FLAGS.join(" "));
     println!("cargo:rustc-env=C_COMPILER={}", version_of("gcc"));
     println!("cargo:rustc-env=RUST_COMPILER={}", version_of(&env::var("RUSTC").expect("RUSTC")));
-    println!("cargo:rustc-env=RUST_LEVEL={}", env::var("OPT_LEVEL").expect("OPT_LEVEL"));
+    println!("cargo:rustc-env=RUST_FLAGS={}", rust_flags());
 }

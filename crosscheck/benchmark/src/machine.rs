@@ -18,11 +18,11 @@ fn processor() -> Result<String, String> {
 /// Prints processor, load, compilers and flags.
 pub fn print() -> Result<(), String> {
     let load = text("/proc/loadavg")?;
-    let load: Vec<&str> = load.split_whitespace().take(1).collect();
+    let load = load.split_whitespace().next().ok_or("/proc/loadavg: no load")?;
     let processors = std::thread::available_parallelism().map_err(|error| error.to_string())?;
-    println!("processor: {}, {processors} in use, load {} at the start", processor()?, load.concat());
+    println!("processor: {processors} of {}, load at the start {load}", processor()?);
     println!("proved ledger: libtembuyas.a as rt staticlib builds it");
-    println!("separate settlement: {}, opt-level {}", env!("RUST_COMPILER"), env!("RUST_LEVEL"));
+    println!("separate settlement: {}, {}", env!("RUST_COMPILER"), env!("RUST_FLAGS"));
     println!("plain pass: {}, {}", env!("C_COMPILER"), env!("PLAIN_PASS_FLAGS"));
     Ok(())
 }

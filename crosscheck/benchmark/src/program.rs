@@ -9,7 +9,7 @@ use std::time::Duration;
 
 use settlement::text::settle_book_text;
 
-use crate::timing::Times;
+use crate::timing::{Clock, Times};
 
 /// Runs a program on the book of a file, with its output thrown away.
 fn run(program: &Path, book: &Path) -> Result<(), String> {
@@ -24,7 +24,7 @@ fn run(program: &Path, book: &Path) -> Result<(), String> {
 
 /// The times of settle_book and of `cat` on the book of a file.
 pub fn beside_cat(settle_book: &Path, book: &Path, turns: usize) -> Result<(Times, Times), String> {
-    let (mut settling, mut copying) = (Times::default(), Times::default());
+    let (mut settling, mut copying) = (Times::new(Clock::Passing), Times::new(Clock::Passing));
     for _ in 0..turns {
         settling.add(|| run(settle_book, book))?;
         copying.add(|| run(Path::new("cat"), book))?;
