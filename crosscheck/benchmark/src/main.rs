@@ -27,7 +27,10 @@ const MEMORY_RUNS: usize = 9;
 
 /// Books of a kind in the sizes given. The sizes take turns too, so that what slows the machine slows them all.
 fn measure(kind: &Kind, sizes: &[u32]) -> Result<Vec<Shelf>, String> {
-    let shelves: Result<Vec<Shelf>, String> = sizes.iter().map(|&points| Shelf::new(kind, points)).collect();
+    let shelves: Result<Vec<Shelf>, String> = sizes
+        .iter()
+        .map(|&points| Shelf::new(kind, points))
+        .collect();
     let mut shelves = shelves?;
     let mut desk = shelf::desk(&shelves);
     for _ in 0..TURNS {
@@ -37,13 +40,19 @@ fn measure(kind: &Kind, sizes: &[u32]) -> Result<Vec<Shelf>, String> {
     Ok(shelves)
 }
 
+/// Writes a book of a kind to a file of the folder: its path and its length.
+fn write_book(folder: &Path, kind: &Kind, points: u32) -> Result<(PathBuf, usize), String> {
+    let path = folder.join(format!("{}.{points}", kind.name));
+    let book = (kind.list)(points).book();
+    std::fs::write(&path, &book).map_err(|error| format!("{}: {error}", path.display()))?;
+    Ok((path, book.len()))
+}
+
 /// settle_book beside `cat` on the largest ordinary book.
 fn measure_program(settle_book: &Path, folder: &Path) -> Result<(), String> {
-    let path = folder.join("ordinary.book");
-    let book = (ORDINARY.list)(MOST).book();
-    std::fs::write(&path, &book).map_err(|error| format!("{}: {error}", path.display()))?;
+    let (path, bytes) = write_book(folder, &ORDINARY, MOST)?;
     let (settling, copying) = program::beside_cat(settle_book, &path, TURNS)?;
-    report::print_program(book.len(), &settling, &copying);
+    report::print_program(bytes, &settling, &copying);
     Ok(())
 }
 
@@ -62,6 +71,9 @@ fn measure_memory(settle_book: &Path) -> Result<[u64; 2], String> {
 
 fn run(settle_book: &Path, folder: &Path) -> Result<(), String> {
     machine::print()?;
+    // for the counts of instructions in docs/BENCHMARKS.md
+    write_book(folder, &ORDINARY, FEWEST)?;
+    write_book(folder, &DROPPING, FEWEST)?;
     let ordinary = measure(&ORDINARY, &SIZES)?;
     let dropping = measure(&DROPPING, &SIZES)?;
     measure(&GENERATORS, &[MOST])?;

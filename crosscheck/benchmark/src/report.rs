@@ -7,14 +7,23 @@ use crate::timing::Times;
 /// Prints the table of a kind of books.
 pub fn print_table(kind: &Kind, shelves: &[Shelf]) {
     println!();
-    println!("{} books: ns of the processor a point, best turn (median turn), and ratios of the best", kind.name);
+    println!(
+        "{} books: ns of the processor a point, best turn (median turn), and ratios of the best",
+        kind.name
+    );
     println!(
         "{:>5} {:>9} {:>13} {:>13} {:>13} {:>15} {:>12}",
         "books", "of points", "proved", "separate", "plain", "proved/separate", "proved/plain"
     );
     for shelf in shelves {
         let points = shelf.all_points();
-        let cell = |times: &Times| format!("{:.0} ({:.0})", times.best() / points, times.median() / points);
+        let cell = |times: &Times| {
+            format!(
+                "{:.0} ({:.0})",
+                times.best() / points,
+                times.median() / points
+            )
+        };
         println!(
             "{:>5} {:>9} {:>13} {:>13} {:>13} {:>15.3} {:>12.3}",
             shelf.books,
@@ -33,15 +42,25 @@ pub fn print_program(bytes: usize, settling: &Times, copying: &Times) {
     let ratio = settling.best() / copying.best();
     let cell = |times: &Times| format!("{:.1} ({:.1})", times.best() / 1e6, times.median() / 1e6);
     println!();
-    println!("settle_book beside cat, {:.1} MB from a file: ms, best (median)", bytes as f64 / 1e6);
-    println!("settle_book {}, cat {}, ratio {ratio:.2}", cell(settling), cell(copying));
+    println!(
+        "settle_book beside cat, {:.1} MB from a file: ms, best (median)",
+        bytes as f64 / 1e6
+    );
+    println!(
+        "settle_book {}, cat {}, ratio {ratio:.2}",
+        cell(settling),
+        cell(copying)
+    );
 }
 
 /// Prints the memory of settle_book for two sizes.
 pub fn print_memory(points: [u32; 2], peaks: [u64; 2]) {
     println!();
     let [fewest, most] = points;
-    println!("peak memory of settle_book: {} kB at {fewest} points, {} kB at {most}", peaks[0], peaks[1]);
+    println!(
+        "peak memory of settle_book: {} kB at {fewest} points, {} kB at {most}",
+        peaks[0], peaks[1]
+    );
 }
 
 /// The largest of some figures.
@@ -64,11 +83,36 @@ pub fn print_goals(ordinary: &[Shelf], dropping: &[Shelf], memory: [u64; 2]) {
     println!();
     let slower = largest(ordinary, Shelf::of_separate).max(largest(dropping, Shelf::of_separate));
     print_goal("both, of the separate settlement", slower, 1.0, "");
-    print_goal("ordinary, of the plain pass", largest(ordinary, Shelf::of_plain), 1.2, "");
-    print_goal("dropping, of the plain pass", largest(dropping, Shelf::of_plain), 1.5, "");
-    print_goal("ordinary, slowest size of the fastest", unevenness(ordinary), 1.05, "");
-    print_goal("dropping, slowest size of the fastest", unevenness(dropping), 1.05, "");
+    print_goal(
+        "ordinary, of the plain pass",
+        largest(ordinary, Shelf::of_plain),
+        1.2,
+        "",
+    );
+    print_goal(
+        "dropping, of the plain pass",
+        largest(dropping, Shelf::of_plain),
+        1.5,
+        "",
+    );
+    print_goal(
+        "ordinary, slowest size of the fastest",
+        unevenness(ordinary),
+        1.05,
+        "",
+    );
+    print_goal(
+        "dropping, slowest size of the fastest",
+        unevenness(dropping),
+        1.05,
+        "",
+    );
     let [fewest, most] = memory.map(|peak| peak as f64);
     print_goal("memory of settle_book", fewest.max(most) / 1e3, 8.0, " MB");
-    print_goal("memory at most points, of that at fewest", most / fewest, 1.05, "");
+    print_goal(
+        "memory at most points, of that at fewest",
+        most / fewest,
+        1.05,
+        "",
+    );
 }

@@ -86,6 +86,8 @@ impl Shelf {
 
 /// Room for the books of a turn, of any size.
 pub fn desk(shelves: &[Shelf]) -> Vec<u8> {
-    let bytes = shelves.iter().map(|shelf| shelf.books as usize * shelf.book.len());
+    let bytes = shelves
+        .iter()
+        .map(|shelf| shelf.books as usize * shelf.book.len());
     Vec::with_capacity(bytes.max().unwrap_or(0))
 }
