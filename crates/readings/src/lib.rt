@@ -36,6 +36,7 @@ fn turned(a: u8, b: u8, c: u8, d: u8) -> u32
     (a as u32) + (b as u32) * 256 + ((c as u32) + (d as u32) * 256) * 65536
 }
 
+// Its four places are counted as `word32` counts them.
 fn one_packed(readings: &[u8], i: usize) -> u32
     requires { ⌜ (i + 1) * 4 ≤ length (now readings) ⌝ }
     ensures { λ r. ⌜ (r % 256 < 32 → firstLarge (drop (i * 4) (now (readings .entry))) 1 ≡ 1) ⌝ }

@@ -109,7 +109,11 @@ pub fn check(kind: &Kind, list: &List) -> Result<(), String> {
         while let Some(five) = left.first_chunk::<DAYS_OF_A_ROUND>() {
             let dropped = dropped_in_round(five, &sums);
             if dropped.len() != kind.drops.0 {
-                return Err(format!("a consumer of the {} book drops {} days in a round", kind.name, dropped.len()));
+                return Err(format!(
+                    "a consumer of the {} book drops {} days in a round",
+                    kind.name,
+                    dropped.len()
+                ));
             }
             if dropped.is_empty() {
                 break;
@@ -118,7 +122,10 @@ pub fn check(kind: &Kind, list: &List) -> Result<(), String> {
             rounds += 1;
         }
         if rounds != kind.drops.1 {
-            return Err(format!("a consumer of the {} book drops days in {rounds} rounds", kind.name));
+            return Err(format!(
+                "a consumer of the {} book drops days in {rounds} rounds",
+                kind.name
+            ));
         }
     }
     Ok(())

@@ -8,97 +8,78 @@ mod machine;
 mod program;
 mod report;
 mod settlings;
+mod shelf;
 mod timing;
 
-use std::hint::black_box;
 use std::path::{Path, PathBuf};
 use std::process::ExitCode;
 
 use books::{Kind, DROPPING, GENERATORS, ORDINARY};
-use report::{Measured, Report};
-use timing::Times;
+use shelf::Shelf;
 
 /// Points of the books.
 const SIZES: [u32; 4] = [1_000, 2_500, 5_000, 10_000];
-/// A turn goes through so many points, whatever the size of the books: a book that stayed in the cache from turn to
-/// turn could not be compared with one that does not fit there.
-const POINTS_OF_A_TURN: u32 = 10_000;
-const TURNS: usize = 25;
+const FEWEST: u32 = SIZES[0];
+const MOST: u32 = SIZES[3];
+const TURNS: usize = 60;
+/// The system counts the memory of a process by more or fewer pages from run to run: the least of so many runs counts.
+const MEMORY_RUNS: usize = 9;
 
-/// Times one of the passes over every book.
-fn pass<T>(times: &mut Times, shelf: &[Vec<u8>], settle: fn(&[u8]) -> T) {
-    times.add(|| {
-        for book in shelf {
-            black_box(settle(book));
-        }
-    });
-}
-
-/// The three passes over books of a kind, in turns.
-fn measure(kind: &Kind, points: u32) -> Result<Measured, String> {
-    let list = (kind.list)(points);
-    books::check(kind, &list)?;
-    let book = list.book();
-    settlings::check(&book)?;
-    let shelf = vec![book; (POINTS_OF_A_TURN / points) as usize];
-    let [mut proved, mut separate, mut plain] = [(); 3].map(|()| Times::default());
+/// Books of a kind in the sizes given. The sizes take turns too, so that what slows the machine slows them all.
+fn measure(kind: &Kind, sizes: &[u32]) -> Result<Vec<Shelf>, String> {
+    let shelves: Result<Vec<Shelf>, String> = sizes
+        .iter()
+        .map(|&points| Shelf::new(kind, points))
+        .collect();
+    let mut shelves = shelves?;
+    let mut desk = shelf::desk(&shelves);
     for _ in 0..TURNS {
-        pass(&mut proved, &shelf, settlings::proved);
-        pass(&mut separate, &shelf, settlings::separate);
-        pass(&mut plain, &shelf, settlings::plain);
+        shelves.iter_mut().for_each(|shelf| shelf.turn(&mut desk));
     }
-    Ok(Measured {
-        books: shelf.len(),
-        points,
-        proved,
-        separate,
-        plain,
-    })
+    report::print_table(kind, &shelves);
+    Ok(shelves)
 }
 
-/// The books of a kind, in the sizes given.
-fn measure_kind(kind: &Kind, sizes: &[u32]) -> Result<Vec<Measured>, String> {
-    report::head_of_table(kind);
-    let mut all = Vec::new();
-    for &points in sizes {
-        let measured = measure(kind, points)?;
-        measured.print();
-        all.push(measured);
-    }
-    Ok(all)
+/// Writes a book of a kind to a file of the folder: its path and its length.
+fn write_book(folder: &Path, kind: &Kind, points: u32) -> Result<(PathBuf, usize), String> {
+    let path = folder.join(format!("{}.{points}", kind.name));
+    let book = (kind.list)(points).book();
+    std::fs::write(&path, &book).map_err(|error| format!("{}: {error}", path.display()))?;
+    Ok((path, book.len()))
 }
 
 /// settle_book beside `cat` on the largest ordinary book.
 fn measure_program(settle_book: &Path, folder: &Path) -> Result<(), String> {
-    let path = folder.join("ordinary.book");
-    let book = (ORDINARY.list)(SIZES[3]).book();
-    std::fs::write(&path, &book).map_err(|error| format!("{}: {error}", path.display()))?;
+    let (path, bytes) = write_book(folder, &ORDINARY, MOST)?;
     let (settling, copying) = program::beside_cat(settle_book, &path, TURNS)?;
-    report::print_program(book.len(), &settling, &copying);
+    report::print_program(bytes, &settling, &copying);
     Ok(())
 }
 
 /// The peak memory of settle_book for the smallest and the largest ordinary book, in kB.
 fn measure_memory(settle_book: &Path) -> Result<[u64; 2], String> {
-    let peak = |points| program::peak_memory(settle_book, &(ORDINARY.list)(points).book());
-    let peaks = [peak(SIZES[0])?, peak(SIZES[3])?];
-    report::print_memory([SIZES[0], SIZES[3]], peaks);
+    let peak = |points| -> Result<u64, String> {
+        let book = (ORDINARY.list)(points).book();
+        let runs = (0..MEMORY_RUNS).map(|_| program::peak_memory(settle_book, &book));
+        let peaks = runs.collect::<Result<Vec<u64>, String>>()?;
+        peaks.into_iter().min().ok_or("no run".into())
+    };
+    let peaks = [peak(FEWEST)?, peak(MOST)?];
+    report::print_memory([FEWEST, MOST], peaks);
     Ok(peaks)
 }
 
 fn run(settle_book: &Path, folder: &Path) -> Result<(), String> {
     machine::print()?;
-    let ordinary = measure_kind(&ORDINARY, &SIZES)?;
-    let dropping = measure_kind(&DROPPING, &SIZES)?;
-    measure_kind(&GENERATORS, &SIZES[3..])?;
+    // for the counts of instructions in docs/BENCHMARKS.md
+    write_book(folder, &ORDINARY, FEWEST)?;
+    write_book(folder, &DROPPING, FEWEST)?;
+    let ordinary = measure(&ORDINARY, &SIZES)?;
+    let dropping = measure(&DROPPING, &SIZES)?;
+    measure(&GENERATORS, &[MOST])?;
     measure_program(settle_book, folder)?;
     let memory = measure_memory(settle_book)?;
-    Report {
-        ordinary,
-        dropping,
-        memory,
-    }
-    .print_goals();
+    report::print_goals(&ordinary, &dropping, memory);
     Ok(())
 }
 

@@ -9,13 +9,17 @@ use std::time::Duration;
 
 use settlement::text::settle_book_text;
 
-use crate::timing::Times;
+use crate::timing::{Clock, Times};
 
 /// Runs a program on the book of a file, with its output thrown away.
 fn run(program: &Path, book: &Path) -> Result<(), String> {
     let told = |error| format!("{}: {error}", program.display());
     let input = File::open(book).map_err(told)?;
-    let status = Command::new(program).stdin(input).stdout(Stdio::null()).status().map_err(told)?;
+    let status = Command::new(program)
+        .stdin(input)
+        .stdout(Stdio::null())
+        .status()
+        .map_err(told)?;
     if !status.success() {
         return Err(format!("{}: {status}", program.display()));
     }
@@ -24,7 +28,7 @@ fn run(program: &Path, book: &Path) -> Result<(), String> {
 
 /// The times of settle_book and of `cat` on the book of a file.
 pub fn beside_cat(settle_book: &Path, book: &Path, turns: usize) -> Result<(Times, Times), String> {
-    let (mut settling, mut copying) = (Times::default(), Times::default());
+    let (mut settling, mut copying) = (Times::new(Clock::Passing), Times::new(Clock::Passing));
     for _ in 0..turns {
         settling.add(|| run(settle_book, book))?;
         copying.add(|| run(Path::new("cat"), book))?;
@@ -40,7 +44,12 @@ fn peak_of_sleeping(process: u32) -> Result<u64, String> {
     let path = format!("/proc/{process}/status");
     for _ in 0..MOST_LOOKS {
         let status = fs::read_to_string(&path).map_err(|error| format!("{path}: {error}"))?;
-        let line = |name: &str| status.lines().find_map(|line| line.strip_prefix(name)).map(str::trim);
+        let line = |name: &str| {
+            status
+                .lines()
+                .find_map(|line| line.strip_prefix(name))
+                .map(str::trim)
+        };
         if line("State:").is_some_and(|state| state.starts_with('S')) {
             let peak = line("VmHWM:").and_then(|peak| peak.strip_suffix(" kB"));
             let peak = peak.and_then(|peak| peak.trim().parse().ok());
@@ -48,7 +57,9 @@ fn peak_of_sleeping(process: u32) -> Result<u64, String> {
         }
         sleep(Duration::from_millis(1));
     }
-    Err(format!("{path}: the program does not come to the end of its book"))
+    Err(format!(
+        "{path}: the program does not come to the end of its book"
+    ))
 }
 
 /// The most memory that settle_book holds for a book, in kB. The book comes through a pipe that is kept open behind the
@@ -56,14 +67,21 @@ fn peak_of_sleeping(process: u32) -> Result<u64, String> {
 pub fn peak_memory(settle_book: &Path, book: &[u8]) -> Result<u64, String> {
     let told = |error| format!("{}: {error}", settle_book.display());
     let mut command = Command::new(settle_book);
-    let mut child = command.stdin(Stdio::piped()).stdout(Stdio::piped()).spawn().map_err(told)?;
+    let mut child = command
+        .stdin(Stdio::piped())
+        .stdout(Stdio::piped())
+        .spawn()
+        .map_err(told)?;
     let mut input = child.stdin.take().expect("a pipe");
     input.write_all(book).map_err(told)?;
     let peak = peak_of_sleeping(child.id())?;
     drop(input);
     let output = child.wait_with_output().map_err(told)?;
     if output.stdout != settle_book_text(book).into_bytes() {
-        return Err(format!("{}: other text than the separate settlement's", settle_book.display()));
+        return Err(format!(
+            "{}: other text than the separate settlement's",
+            settle_book.display()
+        ));
     }
     Ok(peak)
 }
