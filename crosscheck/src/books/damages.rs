@@ -9,9 +9,10 @@ use crate::limits::*;
 pub type Damage = fn(&mut Random, &mut Vec<u8>);
 
 /// All damages with their names.
-pub const DAMAGES: [(&str, Damage); 10] = [
+pub const DAMAGES: [(&str, Damage); 11] = [
     ("cut anywhere", cut_anywhere),
     ("cut near a field's edge", cut_near_edge),
+    ("cut in the first fields", cut_first_fields),
     ("bytes after the last point", bytes_after),
     ("wrong tag", wrong_tag),
     ("wrong length", wrong_length),
@@ -21,6 +22,10 @@ pub const DAMAGES: [(&str, Damage); 10] = [
     ("bytes put in", bytes_put_in),
     ("several faults", several_faults),
 ];
+
+/// Bytes of a point that are cut often: tag, length, number and what follows it,
+/// a class or a baseline.
+pub const FIRST_OF_POINT: usize = FRONT_LENGTH + NUMBER_LENGTH + 4;
 
 /// Where the fields of a book begin, as far as it can be cut into fields.
 pub fn field_begins(book: &[u8]) -> Vec<usize> {
@@ -61,6 +66,12 @@ pub fn cut_near_edge(random: &mut Random, book: &mut Vec<u8>) {
     if let Some(begin) = any_field(random, book) {
         book.truncate((begin + random.place(9)).saturating_sub(4));
     }
+}
+
+/// The book ends at any byte of head and calendar, or at one of the first
+/// [`FIRST_OF_POINT`] of a point.
+pub fn cut_first_fields(random: &mut Random, book: &mut Vec<u8>) {
+    book.truncate(random.place(WRITTEN_HEAD_LENGTH + FIRST_OF_POINT + 1));
 }
 
 /// Bytes follow, sometimes a whole field.
