@@ -74,11 +74,14 @@ pub fn cut_first_fields(random: &mut Random, book: &mut Vec<u8>) {
     book.truncate(random.place(WRITTEN_HEAD_LENGTH + FIRST_OF_POINT + 1));
 }
 
-/// Bytes follow, sometimes a whole field.
+/// Bytes follow, sometimes a whole field, sometimes zeros.
 pub fn bytes_after(random: &mut Random, book: &mut Vec<u8>) {
     let field = field_range(random, book);
     let more = random.one_of(&[1, 2, 3, field.len()]);
-    let more: Vec<u8> = book[field].iter().copied().cycle().take(more).collect();
+    let mut more: Vec<u8> = book[field].iter().copied().cycle().take(more).collect();
+    if random.once_in(3) {
+        more.fill(0);
+    }
     book.extend(more);
 }
 

@@ -48,9 +48,11 @@ pub fn point_faults(random: &mut Random) -> List {
     list
 }
 
-/// No such date, sometimes a weekend.
+/// No such date, or a weekend.
 fn date(random: &mut Random, list: &mut List) {
-    (list.head.year, list.head.month, list.head.day) = random.one_of(&OTHER_DATES);
+    let other = random.one_of(&OTHER_DATES);
+    let dates = [(2024, 8, 3), (2024, 8, 4), other, other];
+    (list.head.year, list.head.month, list.head.day) = random.one_of(&dates);
 }
 
 fn first_slot(random: &mut Random, list: &mut List) {

@@ -14,7 +14,7 @@ use crate::terms::{contract_is_allowed, Terms};
 pub type Kind = fn(&mut Random) -> List;
 
 /// All kinds with their names.
-pub const KINDS: [(&str, Kind); 22] = [
+pub const KINDS: [(&str, Kind); 24] = [
     ("ordinary", ordinary),
     ("boundary head", boundary_head),
     ("boundary calendar", boundary_calendar),
@@ -38,6 +38,8 @@ pub const KINDS: [(&str, Kind); 22] = [
         "several at the quarter rule limit",
         several_at_quarter_limit,
     ),
+    ("sums of the whole range", sums_of_whole_range),
+    ("more points than a byte counts", more_than_a_byte),
     ("faults of the head", head_faults),
     ("faults of a point", point_faults),
 ];
@@ -186,8 +188,10 @@ pub fn boundary_head(random: &mut Random) -> List {
 /// there is such a date or not.
 pub fn month_ends(random: &mut Random) -> List {
     let mut list = ordinary(random);
-    list.head.year = random.between(u32::from(FIRST_YEAR), u32::from(LAST_YEAR)) as u16;
-    list.head.month = random.between(1, 12) as u8;
+    let year = random.between(u32::from(FIRST_YEAR), u32::from(LAST_YEAR)) as u16;
+    let month = random.between(1, 12) as u8;
+    list.head.year = random.one_of(&[year, year - year % 4]);
+    list.head.month = random.one_of(&[2, 12, month, month]);
     list.head.day = random.one_of(&[1, 28, 29, 30, 31, 32]);
     list
 }
@@ -398,6 +402,22 @@ fn set_ends(random: &mut Random, consumer: &mut ConsumerFields, first_slot: u8) 
     }
 }
 
+/// Window readings of each day up to a level of its own, from 0 to the highest:
+/// window sums on both sides of 32 bits, in any order.
+pub fn sums_of_whole_range(random: &mut Random) -> List {
+    let mut list = begun(random);
+    mark_some(random, &mut list);
+    let mut consumer = consumer(random, &list, 400_000_000);
+    for back in 1..=DAYS_BACK {
+        let level = random.between(0, HIGHEST_READING);
+        for reading in consumer.window(back, list.head.first_slot) {
+            *reading = random.between(level / 2, level);
+        }
+    }
+    list.push(PointFields::Consumer(consumer));
+    list
+}
+
 /// A generator whose total is a multiple of 3,000, one less or one more, also
 /// around zero and below it.
 pub fn total_near_multiple(random: &mut Random) -> List {
@@ -479,12 +499,22 @@ pub fn contract_near_settled(random: &mut Random) -> List {
     list
 }
 
-/// A longer list of generators, numbers rising in steps.
-pub fn many_generators(random: &mut Random) -> List {
+/// A list of generators, numbers rising in steps.
+fn generators(random: &mut Random, least: u32, most: u32) -> List {
     let mut list = begun(random);
-    for _ in 0..random.between(20, 60) {
+    for _ in 0..random.between(least, most) {
         let generator = generator(random, &list, 3_000_000);
         list.push(PointFields::Generator(generator));
     }
     list
+}
+
+/// A longer list of generators.
+pub fn many_generators(random: &mut Random) -> List {
+    generators(random, 20, 60)
+}
+
+/// Around 256 generators.
+pub fn more_than_a_byte(random: &mut Random) -> List {
+    generators(random, 254, 260)
 }
