@@ -1,6 +1,7 @@
 //! What the first 20,000 seeded books hold, by the settlement's own looking:
 //! every feature named here must occur.
 
+use settlement::book::PointValue;
 use settlement::books::damages::{field_begins, FIRST_OF_POINT};
 use settlement::books::{seeded_book, SeededBook};
 use settlement::choosing::{dropped_in_round, standing_days, WindowSums};
@@ -54,10 +55,10 @@ impl Seen {
 
 /// The fields of an undamaged book: head, calendar, then tag and value of each
 /// point.
-fn fields(book: &[u8]) -> (&[u8], &[u8], Vec<(u8, &[u8])>) {
+fn fields(book: &[u8]) -> (&[u8], &[u8], Vec<PointValue<'_>>) {
     let begins = field_begins(book);
     let ends = begins.iter().copied().skip(1).chain([book.len()]);
-    let mut fields: Vec<(u8, &[u8])> = begins
+    let mut fields: Vec<PointValue> = begins
         .iter()
         .zip(ends)
         .map(|(&begin, end)| (book[begin], &book[begin + FRONT_LENGTH..end]))

@@ -84,10 +84,11 @@ impl Shared {
     pub fn judge(&self, name: &str, edit: Option<&Edit>, books: u64) -> Result<String, String> {
         let folder = self.folder.join(name);
         copy_sources(&folder, edit)?;
+        // Mostly an early case tells it apart, so that building is what costs.
         let wrong = Crate {
             name: "wrong",
             root: folder.join("lib.rs"),
-            form: &["--crate-type", "rlib", "-C", "opt-level=1"],
+            form: &["--crate-type", "rlib", "-C", "opt-level=0"],
         };
         let judged = Crate {
             name: "judged",
