@@ -34,7 +34,7 @@ pub fn whole_number(bytes: &[u8]) -> u32 {
 
 impl Terms {
     /// The numbers of a head and calendar; rule 1 is the only one tested here.
-    fn cut(head: &[u8], calendar: &[u8]) -> Result<Terms, Refusal> {
+    pub fn cut(head: &[u8], calendar: &[u8]) -> Result<Terms, Refusal> {
         refuse_where(
             head.len() != HEAD_LENGTH || calendar.len() != CALENDAR_LENGTH,
             HEAD_OR_CALENDAR_LENGTH,

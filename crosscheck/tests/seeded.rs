@@ -70,6 +70,24 @@ fn the_quarter_rule_is_met_exactly_and_missed_by_one() {
 }
 
 #[test]
+fn a_dropped_day_would_stand_without_the_other() {
+    let counts = counted(lists::several_at_quarter_limit, |list| {
+        let five = first_five(list)?;
+        let together: u64 = five.iter().sum();
+        let (mut dropped, standing): (Vec<u64>, Vec<u64>) =
+            five.iter().partition(|&sum| 20 * sum < together);
+        dropped.sort();
+        let lowest = *dropped.first()?;
+        let highest = *dropped.last()?;
+        Some((standing.len(), 20 * highest >= together - lowest))
+    });
+    for stands in [false, true] {
+        assert!(counts[&Some((3, stands))] > 100, "{counts:?}");
+    }
+    assert!(counts[&Some((4, false))] > 100, "{counts:?}");
+}
+
+#[test]
 fn rounds_drop_up_to_four_days() {
     let counts = counted(lists::several_dropped, |list| {
         let (eligible, sums) = days_and_sums(list);

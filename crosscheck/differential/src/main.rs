@@ -7,6 +7,7 @@
 
 use std::collections::BTreeMap;
 
+use settlement::books::lending::{lent_bytes, result_length, to_write, ToWrite};
 use settlement::books::seeded_book;
 use settlement::{book, writing};
 
@@ -34,7 +35,7 @@ struct Lent {
 
 impl Lent {
     fn new(length: usize) -> Lent {
-        let bytes = (0..GUARD + length + GUARD).map(|i| (i * 37 + 11) as u8).collect();
+        let bytes = lent_bytes(GUARD + length + GUARD);
         Lent { bytes, length }
     }
 
@@ -44,16 +45,6 @@ impl Lent {
 
     fn lent(&mut self) -> &mut [u8] {
         &mut self.bytes[GUARD..GUARD + self.length]
-    }
-}
-
-/// The lengths of result that are tried: 64 mostly, and its neighbours.
-fn result_length(number: u64) -> usize {
-    match number % 16 {
-        0 => 63,
-        1 => 65,
-        2 => 0,
-        _ => 64,
     }
 }
 
@@ -102,9 +93,7 @@ impl Guarded {
 
 /// Writes the parts of a book both ways, into lent bytes of several lengths.
 fn compare_writing(book: &[u8], number: u64) -> Result<(), String> {
-    let room = [52, 53, 54, 60, 5977, 5978, 6000][(number % 7) as usize];
-    let head = book.get(3..20).unwrap_or(&[]);
-    let calendar = book.get(23..53).unwrap_or(book);
+    let ToWrite { head, calendar, tag, value, room } = to_write(book, number);
     let mut expected = Lent::new(room);
     let mut found = Lent::new(room);
     let refusal = writing::write_head(head, calendar, expected.lent());
@@ -114,13 +103,6 @@ fn compare_writing(book: &[u8], number: u64) -> Result<(), String> {
     if (answer, &found.bytes) != (refusal, &expected.bytes) {
         return Err(format!("writing a head answered {answer}, not {refusal}, or left other bytes"));
     }
-    let tag = book.get(53).copied().unwrap_or(4);
-    let size = match tag {
-        3 => 5975,
-        _ => 50,
-    };
-    let rest = book.get(56..).unwrap_or(&[]);
-    let value = &rest[..rest.len().min(size)];
     let mut expected = Lent::new(room);
     let mut found = Lent::new(room);
     let refusal = writing::write_point(tag, value, expected.lent());

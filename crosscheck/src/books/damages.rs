@@ -9,9 +9,10 @@ use crate::limits::*;
 pub type Damage = fn(&mut Random, &mut Vec<u8>);
 
 /// All damages with their names.
-pub const DAMAGES: [(&str, Damage); 10] = [
+pub const DAMAGES: [(&str, Damage); 11] = [
     ("cut anywhere", cut_anywhere),
     ("cut near a field's edge", cut_near_edge),
+    ("cut in the first fields", cut_first_fields),
     ("bytes after the last point", bytes_after),
     ("wrong tag", wrong_tag),
     ("wrong length", wrong_length),
@@ -21,6 +22,10 @@ pub const DAMAGES: [(&str, Damage); 10] = [
     ("bytes put in", bytes_put_in),
     ("several faults", several_faults),
 ];
+
+/// Bytes of a point that are cut often: tag, length, number and what follows it,
+/// a class or a baseline.
+pub const FIRST_OF_POINT: usize = FRONT_LENGTH + NUMBER_LENGTH + 4;
 
 /// Where the fields of a book begin, as far as it can be cut into fields.
 pub fn field_begins(book: &[u8]) -> Vec<usize> {
@@ -63,11 +68,20 @@ pub fn cut_near_edge(random: &mut Random, book: &mut Vec<u8>) {
     }
 }
 
-/// Bytes follow, sometimes a whole field.
+/// The book ends at any byte of head and calendar, or at one of the first
+/// [`FIRST_OF_POINT`] of a point.
+pub fn cut_first_fields(random: &mut Random, book: &mut Vec<u8>) {
+    book.truncate(random.place(WRITTEN_HEAD_LENGTH + FIRST_OF_POINT + 1));
+}
+
+/// Bytes follow, sometimes a whole field, sometimes zeros.
 pub fn bytes_after(random: &mut Random, book: &mut Vec<u8>) {
     let field = field_range(random, book);
     let more = random.one_of(&[1, 2, 3, field.len()]);
-    let more: Vec<u8> = book[field].iter().copied().cycle().take(more).collect();
+    let mut more: Vec<u8> = book[field].iter().copied().cycle().take(more).collect();
+    if random.once_in(3) {
+        more.fill(0);
+    }
     book.extend(more);
 }
 

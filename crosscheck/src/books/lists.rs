@@ -2,6 +2,7 @@
 //! refused unless the kind says so.
 
 use super::edges;
+use super::faults::{head_faults, point_faults};
 use super::fields::*;
 use super::random::Random;
 use crate::book::settle_fields;
@@ -13,7 +14,7 @@ use crate::terms::{contract_is_allowed, Terms};
 pub type Kind = fn(&mut Random) -> List;
 
 /// All kinds with their names.
-pub const KINDS: [(&str, Kind); 18] = [
+pub const KINDS: [(&str, Kind); 24] = [
     ("ordinary", ordinary),
     ("boundary head", boundary_head),
     ("boundary calendar", boundary_calendar),
@@ -32,6 +33,15 @@ pub const KINDS: [(&str, Kind); 18] = [
     ("without remainder", without_remainder),
     ("contract near settled", contract_near_settled),
     ("many generators", many_generators),
+    ("month ends", month_ends),
+    (
+        "several at the quarter rule limit",
+        several_at_quarter_limit,
+    ),
+    ("sums of the whole range", sums_of_whole_range),
+    ("more points than a byte counts", more_than_a_byte),
+    ("faults of the head", head_faults),
+    ("faults of a point", point_faults),
 ];
 
 /// A test day that opening accepts.
@@ -130,7 +140,7 @@ pub fn consumer(random: &mut Random, list: &List, level: u32) -> ConsumerFields 
 }
 
 /// A generator with readings up to a level.
-fn generator(random: &mut Random, list: &List, level: u32) -> GeneratorFields {
+pub(super) fn generator(random: &mut Random, list: &List, level: u32) -> GeneratorFields {
     let mut generator = GeneratorFields::flat(next_number(random, list), 0, 0);
     for reading in &mut generator.readings {
         *reading = random.between(0, level);
@@ -171,6 +181,18 @@ pub fn ordinary(random: &mut Random) -> List {
 pub fn boundary_head(random: &mut Random) -> List {
     let mut list = ordinary(random);
     edges::head(random, &mut list);
+    list
+}
+
+/// An ordinary list on the first day of a month or around its end, whether
+/// there is such a date or not.
+pub fn month_ends(random: &mut Random) -> List {
+    let mut list = ordinary(random);
+    let year = random.between(u32::from(FIRST_YEAR), u32::from(LAST_YEAR)) as u16;
+    let month = random.between(1, 12) as u8;
+    list.head.year = random.one_of(&[year, year - year % 4]);
+    list.head.month = random.one_of(&[2, 12, month, month]);
+    list.head.day = random.one_of(&[1, 28, 29, 30, 31, 32]);
     list
 }
 
@@ -252,6 +274,27 @@ pub fn quarter_rule_limit(random: &mut Random) -> List {
     list
 }
 
+/// Two days of the first round under a quarter or near it: the higher one is
+/// at the limit, or would be if the lower one were taken from the five sums.
+/// Few days stand behind the five, so that it matters which are dropped.
+pub fn several_at_quarter_limit(random: &mut Random) -> List {
+    let mut list = begun(random);
+    let left = random.between(5, 8) as usize;
+    leave_eligible(random, &mut list, left);
+    let near = random.between(20, 40_000);
+    let low = random.between(0, near);
+    let together = 20 * near - 1 + random.one_of(&[0, 1, 2, low, low + 1, low + 2]);
+    let high = (together - near - low) / 3;
+    let mut sums = vec![high, high, together - near - low - 2 * high];
+    for sum in [near, low] {
+        sums.insert(random.place(sums.len() + 1), sum);
+    }
+    sums.extend([0; 3].map(|_: u32| random.one_of(&[low, near, high])));
+    let consumer = consumer_with_sums(random, &list, &sums);
+    list.push(PointFields::Consumer(consumer));
+    list
+}
+
 /// Rounds that drop up to four days at once, and several rounds.
 pub fn several_dropped(random: &mut Random) -> List {
     let mut list = begun(random);
@@ -271,17 +314,22 @@ pub fn several_dropped(random: &mut Random) -> List {
     list
 }
 
+/// Marks all eligible days but so many, after a few that are marked too.
+fn leave_eligible(random: &mut Random, list: &mut List, left: usize) {
+    let skipped = random.place(4);
+    for (order, back) in eligible(list).into_iter().enumerate() {
+        if order < skipped || order >= skipped + left {
+            list.marks[back - 1] = random.between(1, 3) as u8;
+        }
+    }
+}
+
 /// Marks that leave up to seven eligible days, some of them under a quarter,
 /// so that two to five stand; too few give refusal 18.
 pub fn few_standing_days(random: &mut Random) -> List {
     let mut list = begun(random);
     let left = random.between(2, 7) as usize;
-    let skipped = random.place(4);
-    for (order, back) in eligible(&list).into_iter().enumerate() {
-        if order < skipped || order >= skipped + left {
-            list.marks[back - 1] = random.between(1, 3) as u8;
-        }
-    }
+    leave_eligible(random, &mut list, left);
     let sums: Vec<u32> = (0..left)
         .map(|_| random.one_of(&[30_000, 30_000, 31_000, 32_000, 10]))
         .collect();
@@ -352,6 +400,22 @@ fn set_ends(random: &mut Random, consumer: &mut ConsumerFields, first_slot: u8) 
         consumer.window(back, first_slot).fill(window);
         consumer.earlier(back, first_slot).fill(earlier);
     }
+}
+
+/// Window readings of each day up to a level of its own, from 0 to the highest:
+/// window sums on both sides of 32 bits, in any order.
+pub fn sums_of_whole_range(random: &mut Random) -> List {
+    let mut list = begun(random);
+    mark_some(random, &mut list);
+    let mut consumer = consumer(random, &list, 400_000_000);
+    for back in 1..=DAYS_BACK {
+        let level = random.between(0, HIGHEST_READING);
+        for reading in consumer.window(back, list.head.first_slot) {
+            *reading = random.between(level / 2, level);
+        }
+    }
+    list.push(PointFields::Consumer(consumer));
+    list
 }
 
 /// A generator whose total is a multiple of 3,000, one less or one more, also
@@ -435,12 +499,22 @@ pub fn contract_near_settled(random: &mut Random) -> List {
     list
 }
 
-/// A longer list of generators, numbers rising in steps.
-pub fn many_generators(random: &mut Random) -> List {
+/// A list of generators, numbers rising in steps.
+fn generators(random: &mut Random, least: u32, most: u32) -> List {
     let mut list = begun(random);
-    for _ in 0..random.between(20, 60) {
+    for _ in 0..random.between(least, most) {
         let generator = generator(random, &list, 3_000_000);
         list.push(PointFields::Generator(generator));
     }
     list
+}
+
+/// A longer list of generators.
+pub fn many_generators(random: &mut Random) -> List {
+    generators(random, 20, 60)
+}
+
+/// Around 256 generators.
+pub fn more_than_a_byte(random: &mut Random) -> List {
+    generators(random, 254, 260)
 }

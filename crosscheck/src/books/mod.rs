@@ -4,7 +4,9 @@
 pub mod damages;
 pub mod edges;
 pub mod examples;
+pub mod faults;
 pub mod fields;
+pub mod lending;
 pub mod lists;
 pub mod random;
 pub mod sequences;

@@ -1,0 +1,227 @@
+//! Holds a wrong settlement against the separate settlement, case by case.
+//!
+//! Every case is made and answered by the unchanged settlement; the wrong one
+//! only answers it.
+
+#![forbid(unsafe_code)]
+#![warn(missing_docs)]
+
+use settlement::books::lending::{lent_bytes, result_length, to_write};
+use settlement::books::{seeded_book, SeededBook};
+use settlement::calls::vectors::stored_calls;
+use settlement::limits::RESULT_LENGTH;
+use std::io::{self, Write};
+use std::panic::{self, AssertUnwindSafe};
+use std::process::ExitCode;
+
+/// The answers that are compared.
+pub trait Answers {
+    /// The whole book call.
+    fn settle(&self, book: &[u8], result: &mut [u8]) -> u32;
+    /// Writing a head with its calendar.
+    fn write_head(&self, head: &[u8], calendar: &[u8], lent: &mut [u8]) -> u32;
+    /// Writing a point.
+    fn write_point(&self, tag: u8, value: &[u8], lent: &mut [u8]) -> u32;
+    /// What settle_book prints for a book.
+    fn text(&self, book: &[u8]) -> String;
+    /// The answers to single calls, given in the form of docs/VECTORS.md.
+    fn calls(&self, calls: &[u8]) -> String;
+}
+
+/// The answers of a crate with the modules of the separate settlement.
+#[macro_export]
+macro_rules! answers_of {
+    ($name:ident, $settlement:ident) => {
+        struct $name;
+
+        impl $crate::Answers for $name {
+            fn settle(&self, book: &[u8], result: &mut [u8]) -> u32 {
+                $settlement::book::settle(book, result)
+            }
+
+            fn write_head(&self, head: &[u8], calendar: &[u8], lent: &mut [u8]) -> u32 {
+                $settlement::writing::write_head(head, calendar, lent)
+            }
+
+            fn write_point(&self, tag: u8, value: &[u8], lent: &mut [u8]) -> u32 {
+                $settlement::writing::write_point(tag, value, lent)
+            }
+
+            fn text(&self, book: &[u8]) -> String {
+                $settlement::text::settle_book_text(book)
+            }
+
+            fn calls(&self, calls: &[u8]) -> String {
+                let (calls, _) = $settlement::calls::read_calls(calls);
+                calls.iter().map(|call| call.answer().1).collect()
+            }
+        }
+    };
+}
+
+answers_of!(Unchanged, settlement);
+
+/// The names of the words of a result.
+const RESULT_NAMES: [&str; 8] = [
+    "total",
+    "settled",
+    "shortfall",
+    "expected",
+    "kept",
+    "surplus",
+    "points",
+    "bid",
+];
+
+/// What one call gave: the name of the call, its number, the lent bytes.
+#[derive(PartialEq, Eq)]
+struct Given(&'static str, u32, Vec<u8>);
+
+impl Given {
+    /// Names and values, in words.
+    fn words(&self) -> String {
+        let Given(name, refusal, lent) = self;
+        let mut words = format!("{name} {refusal}");
+        if lent.len() == RESULT_LENGTH {
+            for (name, word) in RESULT_NAMES.iter().zip(lent.as_chunks().0) {
+                words += &format!(" {name} {}", i64::from_be_bytes(*word));
+            }
+        } else {
+            for (place, byte) in lent.iter().enumerate() {
+                words += &format!(" byte-{place} {byte}");
+            }
+        }
+        words
+    }
+
+    fn what_differs(&self, found: &Given) -> String {
+        value_that_differs(&self.words(), &found.words())
+    }
+}
+
+fn settling(by: &dyn Answers, book: &[u8], number: u64) -> Given {
+    let mut result = lent_bytes(result_length(number));
+    let refusal = by.settle(book, &mut result);
+    Given("settling", refusal, result)
+}
+
+fn writing_head(by: &dyn Answers, book: &[u8], number: u64) -> Given {
+    let given = to_write(book, number);
+    let mut lent = lent_bytes(given.room);
+    let refusal = by.write_head(given.head, given.calendar, &mut lent);
+    Given("writing-head", refusal, lent)
+}
+
+fn writing_point(by: &dyn Answers, book: &[u8], number: u64) -> Given {
+    let given = to_write(book, number);
+    let mut lent = lent_bytes(given.room);
+    let refusal = by.write_point(given.tag, given.value, &mut lent);
+    Given("writing-point", refusal, lent)
+}
+
+/// The first line that differs.
+fn line_that_differs(due: &str, found: &str) -> String {
+    let differs = |(due, found): (&str, &str)| {
+        (due != found).then(|| format!("printing {found} instead of {due}"))
+    };
+    let mut lines = due.lines().zip(found.lines());
+    lines
+        .find_map(differs)
+        .unwrap_or("printing more or fewer lines".to_string())
+}
+
+/// The first value that differs, after its name.
+fn value_that_differs(due: &str, found: &str) -> String {
+    let (mut name, mut found) = ("", found.split_whitespace());
+    for due in due.split_whitespace() {
+        let found = found.next().unwrap_or("nothing");
+        if found != due {
+            return format!("{name} {found} instead of {due}");
+        }
+        if due.starts_with(char::is_alphabetic) {
+            name = due;
+        }
+    }
+    format!("{name} and more words")
+}
+
+/// What a wrong settlement gave for something, or `panics`.
+fn guarded<T>(give: impl FnOnce() -> T) -> Result<T, String> {
+    panic::catch_unwind(AssertUnwindSafe(give)).map_err(|_| "panics".to_string())
+}
+
+/// What differs between two answers, if they differ.
+fn compare<T: PartialEq>(
+    due: T,
+    found: impl FnOnce() -> T,
+    what_differs: impl FnOnce(&T, &T) -> String,
+) -> Result<(), String> {
+    let found = guarded(found)?;
+    if found == due {
+        Ok(())
+    } else {
+        Err(what_differs(&due, &found))
+    }
+}
+
+/// What differs between the answers for a seeded book, if they differ.
+fn compare_book(wrong: &dyn Answers, book: &[u8], number: u64) -> Result<(), String> {
+    for call in [settling, writing_head, writing_point] {
+        let given = |by| call(by, book, number);
+        compare(given(&Unchanged), || given(wrong), Given::what_differs)?;
+    }
+    let text = |by: &dyn Answers| by.text(book);
+    compare(
+        text(&Unchanged),
+        || text(wrong),
+        |due, found| line_that_differs(due, found),
+    )
+}
+
+/// The kind of a book and its damage.
+fn shape(seeded: &SeededBook) -> String {
+    match seeded.damage {
+        Some(damage) => format!("{}, {damage}", seeded.kind),
+        None => seeded.kind.to_string(),
+    }
+}
+
+/// The first of so many seeded books that tells a wrong settlement apart.
+fn told_by_book(wrong: &dyn Answers, books: u64) -> Option<String> {
+    (0..books).find_map(|number| {
+        let seeded = seeded_book(number);
+        let differs = compare_book(wrong, &seeded.book, number).err()?;
+        Some(format!("book {number} ({}) | {differs}", shape(&seeded)))
+    })
+}
+
+/// The first of the stored calls that tells a wrong settlement apart.
+fn told_by_call(wrong: &dyn Answers) -> Option<String> {
+    (1..).zip(stored_calls()).find_map(|(number, call)| {
+        let bytes = call.bytes();
+        let answer = |by: &dyn Answers| by.calls(&bytes);
+        let what = |due: &String, found: &String| value_that_differs(due, found);
+        let differs = compare(answer(&Unchanged), || answer(wrong), what).err()?;
+        Some(format!("call {number} | {differs}"))
+    })
+}
+
+/// What a wrong settlement's program does: prints the first case that tells it
+/// apart, books before calls, or nothing. The program's argument is the number
+/// of books.
+pub fn judge(wrong: &dyn Answers) -> ExitCode {
+    let books = std::env::args().nth(1).and_then(|books| books.parse().ok());
+    let Some(books) = books else {
+        eprintln!("a number of books is due");
+        return ExitCode::from(2);
+    };
+    panic::set_hook(Box::new(|_| {})); // a panic is an answer here
+    let told = told_by_book(wrong, books).or_else(|| told_by_call(wrong));
+    match io::stdout().write_all(told.unwrap_or_default().as_bytes()) {
+        Ok(()) => ExitCode::SUCCESS,
+        Err(error) => {
+            eprintln!("{error}");
+            ExitCode::FAILURE
+        }
+    }
+}

@@ -1,0 +1,130 @@
+//! Seeded lists with several faults at once: each rule of opening, or of a
+//! point, is broken or kept by itself, so that every two of them meet.
+
+use super::edges::OTHER_DATES;
+use super::fields::{List, PointFields};
+use super::lists::{consumer, generator, ordinary};
+use super::random::Random;
+use crate::limits::*;
+
+/// What breaks one rule.
+type Fault = fn(&mut Random, &mut List);
+
+/// For 2 or 3, then for 4 to 8.
+const HEAD_FAULTS: [Fault; 6] = [date, first_slot, loss, contract, count, mark];
+
+/// For 15, 14, 16, 17 and 18; the number is set before a digit of it.
+const POINT_FAULTS: [Fault; 5] = [number_order, digit, class_or_baseline, reading, days];
+
+/// Breaks some of the rules.
+fn break_some(random: &mut Random, list: &mut List, faults: &[Fault]) {
+    for fault in faults {
+        if random.once_in(3) {
+            fault(random, list);
+        }
+    }
+}
+
+/// An ordinary list with some of the faults 2 to 8.
+pub fn head_faults(random: &mut Random) -> List {
+    let mut list = ordinary(random);
+    break_some(random, &mut list, &HEAD_FAULTS);
+    list
+}
+
+/// A generator, then a point with some of the faults 14 to 18.
+pub fn point_faults(random: &mut Random) -> List {
+    let mut list = ordinary(random);
+    list.points.clear();
+    let first = generator(random, &list, 50_000);
+    list.push(PointFields::Generator(first));
+    let point = if random.once_in(4) {
+        PointFields::Generator(generator(random, &list, 50_000))
+    } else {
+        PointFields::Consumer(consumer(random, &list, 50_000))
+    };
+    list.push(point);
+    break_some(random, &mut list, &POINT_FAULTS);
+    list
+}
+
+/// No such date, or a weekend.
+fn date(random: &mut Random, list: &mut List) {
+    let other = random.one_of(&OTHER_DATES);
+    let dates = [(2024, 8, 3), (2024, 8, 4), other, other];
+    (list.head.year, list.head.month, list.head.day) = random.one_of(&dates);
+}
+
+fn first_slot(random: &mut Random, list: &mut List) {
+    list.head.first_slot = random.one_of(&[0, 17, 35, 255]);
+}
+
+fn loss(random: &mut Random, list: &mut List) {
+    list.head.losses[random.place(CLASSES)] = random.one_of(&[5_001, 10_000, u16::MAX]);
+}
+
+/// Also a contract that its three low bytes would allow.
+fn contract(random: &mut Random, list: &mut List) {
+    let three_bytes = (1 << 24) + LOWEST_CONTRACT;
+    list.head.contract = random.one_of(&[1, 999, 10_000_001, three_bytes, u32::MAX]);
+}
+
+fn count(random: &mut Random, list: &mut List) {
+    list.head.count = random.one_of(&[0, 10_001, u16::MAX]);
+}
+
+fn mark(random: &mut Random, list: &mut List) {
+    list.marks[random.place(DAYS_BACK)] = random.one_of(&[4, 255]);
+}
+
+/// The last two points of a list.
+fn last_two(list: &mut List) -> Option<(&mut PointFields, &mut PointFields)> {
+    let (last, before) = list.points.split_last_mut()?;
+    Some((before.last_mut()?, last))
+}
+
+/// The last number is that of the point before, or zero.
+fn number_order(random: &mut Random, list: &mut List) {
+    if let Some((before, last)) = last_two(list) {
+        let zero = [b'0'; NUMBER_LENGTH];
+        *last.number() = random.one_of(&[*before.number(), zero]);
+    }
+}
+
+/// A byte beside the digits in the last number, or nines.
+fn digit(random: &mut Random, list: &mut List) {
+    let (place, byte) = (random.place(NUMBER_LENGTH), random.one_of(b"/:"));
+    let nines = random.once_in(3);
+    if let Some((_, last)) = last_two(list) {
+        last.number()[place] = byte;
+        if nines {
+            *last.number() = NOT_YET_ISSUED;
+        }
+    }
+}
+
+/// Also a baseline that its three low bytes would allow.
+fn class_or_baseline(random: &mut Random, list: &mut List) {
+    match last_two(list) {
+        Some((_, PointFields::Consumer(consumer))) => consumer.class = random.one_of(&[0, 4, 255]),
+        Some((_, PointFields::Generator(generator))) => {
+            generator.baseline = random.one_of(&[1_000_001, 1 << 24, u32::MAX]);
+        }
+        None => {}
+    }
+}
+
+fn reading(random: &mut Random, list: &mut List) {
+    let too_high = random.one_of(&[HIGHEST_READING + 1, u32::MAX]);
+    if let Some((_, last)) = last_two(list) {
+        let place = random.place(last.readings().len());
+        last.readings()[place] = too_high;
+    }
+}
+
+/// Marks that leave at most three eligible days.
+fn days(random: &mut Random, list: &mut List) {
+    let left = random.place(CHOSEN_DAYS);
+    list.marks = [0; DAYS_BACK].map(|_: u8| random.between(1, 3) as u8);
+    list.marks[..left].fill(NO_MARK);
+}
