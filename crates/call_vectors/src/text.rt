@@ -1,5 +1,4 @@
-// The text of an answer. Each function tells whether all of it was written.
-ghost use mathlib.Core.Path.{_≡_};
+// The text of an answer. Each function tells whether all that it wrote was taken.
 use crate::faults;
 use ledger::Figures;
 use ledger::State;
@@ -22,7 +21,7 @@ pub fn number(name: &[u8], value: u64) -> bool {
     put(name) & io::print_decimal(STDOUT_FILENO, value)
 }
 
-// A name and a signed number; the name ends with a space.
+// A name and a signed number.
 fn signed(name: &[u8], value: i64) -> bool {
     let size = numbers::size_of(value);
     if value < 0 {
