@@ -6,6 +6,7 @@ pub mod vectors;
 use crate::ledger::{add, close, open, Figures, State};
 use crate::limits::*;
 use crate::refusals::Refusal;
+use crate::writing::{write_head, write_point};
 
 /// Kind byte of an opening.
 pub const OPENING: u8 = 1;
@@ -13,9 +14,13 @@ pub const OPENING: u8 = 1;
 pub const ADDING: u8 = 2;
 /// Kind byte of a closing.
 pub const CLOSING: u8 = 3;
+/// Kind byte of writing a head.
+pub const WRITING_HEAD: u8 = 4;
+/// Kind byte of writing a point.
+pub const WRITING_POINT: u8 = 5;
 /// Bytes of a state.
 pub const STATE_LENGTH: usize = 123;
-/// Most bytes of a head, a calendar or a value.
+/// Most bytes of a head, a calendar or a value, and most lent bytes.
 pub const MOST_BYTES: usize = 6_000;
 /// Most places that an adding may be lent.
 pub const MOST_PLACES: usize = 8;
@@ -46,48 +51,74 @@ pub enum Call {
         /// The state.
         state: State,
     },
+    /// Writing a head with its calendar.
+    WritingHead {
+        /// The head value.
+        head: Vec<u8>,
+        /// The calendar value.
+        calendar: Vec<u8>,
+        /// What the lent bytes hold before the call.
+        lent: Vec<u8>,
+    },
+    /// Writing a point.
+    WritingPoint {
+        /// The tag.
+        tag: u8,
+        /// The value.
+        value: Vec<u8>,
+        /// What the lent bytes hold before the call.
+        lent: Vec<u8>,
+    },
 }
 
 impl Call {
     /// The call in its form.
     pub fn bytes(&self) -> Vec<u8> {
         match self {
-            Call::Opening { head, calendar } => {
-                let mut bytes = vec![OPENING];
-                bytes.extend(with_length(head));
-                bytes.extend(with_length(calendar));
-                bytes
-            }
+            Call::Opening { head, calendar } => with_parts(vec![OPENING], &[head, calendar]),
             Call::Adding {
                 state,
                 tag,
                 places,
                 value,
             } => {
-                let mut bytes = vec![ADDING];
-                bytes.extend(state_bytes(state));
-                bytes.extend([*tag, places.len() as u8]);
-                bytes.extend(places.iter().flat_map(|place| place.to_be_bytes()));
-                bytes.extend(with_length(value));
-                bytes
+                let mut front = vec![ADDING];
+                front.extend(state_bytes(state));
+                front.extend([*tag, places.len() as u8]);
+                front.extend(places.iter().flat_map(|place| place.to_be_bytes()));
+                with_parts(front, &[value])
             }
-            Call::Closing { state } => {
-                let mut bytes = vec![CLOSING];
-                bytes.extend(state_bytes(state));
-                bytes
+            Call::Closing { state } => [vec![CLOSING], state_bytes(state)].concat(),
+            Call::WritingHead {
+                head,
+                calendar,
+                lent,
+            } => with_parts(vec![WRITING_HEAD], &[head, calendar, lent]),
+            Call::WritingPoint { tag, value, lent } => {
+                with_parts(vec![WRITING_POINT, *tag], &[value, lent])
             }
         }
     }
 
     /// Makes the call: its refusal, and the line of its answer.
     pub fn answer(&self) -> (Refusal, String) {
+        let (refusal, given) = self.made();
+        let name = match self {
+            Call::Opening { .. } => "opening",
+            Call::Adding { .. } => "adding",
+            Call::Closing { .. } => "closing",
+            Call::WritingHead { .. } => "writing head",
+            Call::WritingPoint { .. } => "writing point",
+        };
+        (refusal, format!("{name} {refusal}{given}\n"))
+    }
+
+    /// The refusal of the call, and the text of what it gives back.
+    fn made(&self) -> (Refusal, String) {
         match self {
             Call::Opening { head, calendar } => {
                 let (refusal, state) = open(head, calendar);
-                (
-                    refusal,
-                    format!("opening {refusal}{}\n", state_text(&state)),
-                )
+                (refusal, state_text(&state))
             }
             Call::Adding {
                 state,
@@ -98,24 +129,40 @@ impl Call {
                 let mut places = places.clone();
                 let (refusal, after) = add(state, *tag, value, &mut places);
                 let (after, places) = (state_text(&after), list_text(&places));
-                (refusal, format!("adding {refusal}{after} places{places}\n"))
+                (refusal, format!("{after} places{places}"))
             }
             Call::Closing { state } => {
                 let (refusal, figures) = close(state);
-                (
-                    refusal,
-                    format!("closing {refusal}{}\n", figures_text(&figures)),
-                )
+                (refusal, figures_text(&figures))
+            }
+            Call::WritingHead {
+                head,
+                calendar,
+                lent,
+            } => written(lent, |lent| write_head(head, calendar, lent)),
+            Call::WritingPoint { tag, value, lent } => {
+                written(lent, |lent| write_point(*tag, value, lent))
             }
         }
     }
 }
 
-/// Bytes with their length of two bytes before them.
-fn with_length(bytes: &[u8]) -> Vec<u8> {
-    let mut all = (bytes.len() as u16).to_be_bytes().to_vec();
-    all.extend(bytes);
-    all
+/// The refusal of a writing, and the text of the lent bytes after it.
+fn written(lent: &[u8], write: impl Fn(&mut [u8]) -> Refusal) -> (Refusal, String) {
+    let mut lent = lent.to_vec();
+    let refusal = write(&mut lent);
+    let space = if lent.is_empty() { "" } else { " " };
+    (refusal, format!(" lent{space}{}", hex_text(&lent)))
+}
+
+/// The front of a call, and each part behind it with a length of two bytes.
+fn with_parts(front: Vec<u8>, parts: &[&[u8]]) -> Vec<u8> {
+    let mut bytes = front;
+    for part in parts {
+        bytes.extend((part.len() as u16).to_be_bytes());
+        bytes.extend(*part);
+    }
+    bytes
 }
 
 /// A state in its form.
@@ -255,6 +302,19 @@ impl<'a> Unread<'a> {
             CLOSING => Some(Call::Closing {
                 state: self.state()?,
             }),
+            WRITING_HEAD => Some(Call::WritingHead {
+                head: self.part()?,
+                calendar: self.part()?,
+                lent: self.part()?,
+            }),
+            WRITING_POINT => {
+                let [tag] = self.array()?;
+                Some(Call::WritingPoint {
+                    tag,
+                    value: self.part()?,
+                    lent: self.part()?,
+                })
+            }
             _ => None,
         }
     }

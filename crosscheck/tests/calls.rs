@@ -1,6 +1,7 @@
 //! The stored calls of the program call_vectors: what they cover, their form,
 //! and that the stored files are those made here.
 
+use settlement::books::fields::{raw_field, ConsumerFields, GeneratorFields, HeadFields};
 use settlement::calls::vectors::stored_calls;
 use settlement::calls::{read_calls, Call, MOST_BYTES, MOST_PLACES, STATE_LENGTH};
 use settlement::choosing::standing_days;
@@ -30,6 +31,8 @@ fn name(call: &Call) -> &'static str {
         Call::Opening { .. } => "opening",
         Call::Adding { .. } => "adding",
         Call::Closing { .. } => "closing",
+        Call::WritingHead { .. } => "writing head",
+        Call::WritingPoint { .. } => "writing point",
     }
 }
 
@@ -52,6 +55,10 @@ fn every_refusal_of_every_operation() {
     assert!(told["opening"].iter().copied().eq(0..=8));
     assert!(told["adding"].iter().copied().eq((0..=0).chain(9..=18)));
     assert!(told["closing"].iter().copied().eq([0, 9, 20]));
+    let of_head_writing = told["writing head"].iter().copied();
+    assert!(of_head_writing.eq((0..=8).chain([40])));
+    let of_point_writing = told["writing point"].iter().copied();
+    assert!(of_point_writing.eq([0, 11, 12, 14, 16, 17, 40]));
 }
 
 #[test]
@@ -198,6 +205,158 @@ fn consumers_of_every_choice() {
     assert!(shown.negative_results >= 5, "{}", shown.negative_results);
 }
 
+/// The bytes that a writing puts to the front where it is accepted, and what
+/// it is lent.
+fn field_and_lent(call: &Call) -> Option<(Vec<u8>, &[u8])> {
+    match call {
+        Call::WritingHead {
+            head,
+            calendar,
+            lent,
+        } => Some(([raw_field(1, head), raw_field(2, calendar)].concat(), lent)),
+        Call::WritingPoint { tag, value, lent } => Some((raw_field(*tag, value), lent)),
+        _ => None,
+    }
+}
+
+/// What a writing writes.
+fn written(call: &Call) -> &'static str {
+    match call {
+        Call::WritingHead { .. } => "head",
+        Call::WritingPoint { tag: 3, .. } => "consumer",
+        Call::WritingPoint { tag: 4, .. } => "generator",
+        _ => "other",
+    }
+}
+
+#[test]
+fn every_lent_byte_after_a_writing() {
+    let mut kept = 0;
+    for call in stored_calls() {
+        let Some((field, lent)) = field_and_lent(&call) else {
+            continue;
+        };
+        let (refusal, text) = call.answer();
+        let mut due = lent.to_vec();
+        if refusal == 0 {
+            due[..field.len()].copy_from_slice(&field);
+            kept += u32::from(due[field.len()..].iter().any(|&byte| byte > 0));
+        }
+        let digits: String = due.iter().map(|byte| format!("{byte:02x}")).collect();
+        let line = format!("{} {refusal} lent {digits}", name(&call));
+        assert_eq!(text, format!("{}\n", line.trim_end()));
+    }
+    assert!(kept > 300, "{kept}");
+}
+
+#[test]
+fn writing_in_every_room() {
+    let mut seen = BTreeSet::new();
+    for call in stored_calls() {
+        let Some((field, lent)) = field_and_lent(&call) else {
+            continue;
+        };
+        let room = match lent.len() as isize - field.len() as isize {
+            _ if lent.is_empty() => "none",
+            -1 => "one short",
+            0 => "exact",
+            1 => "one more",
+            2.. => "more",
+            _ => "short",
+        };
+        seen.insert((written(&call), room, call.answer().0));
+    }
+    for written in ["head", "consumer", "generator"] {
+        for room in ["none", "short", "one short"] {
+            assert!(seen.contains(&(written, room, 40)), "{written} {room}");
+        }
+        for room in ["exact", "one more", "more"] {
+            assert!(seen.contains(&(written, room, 0)), "{written} {room}");
+        }
+    }
+}
+
+/// Sets right all that a refusal of a head's writing looks at.
+fn set_head_right(head: &mut Vec<u8>, calendar: &mut Vec<u8>, lent: &mut Vec<u8>, refusal: u32) {
+    let good = HeadFields::EXAMPLE_M.value();
+    let places = match refusal {
+        2 | 3 => 0..4,
+        4 => 4..5,
+        5 => 5..11,
+        6 => 11..15,
+        7 => 15..17,
+        _ => 0..0,
+    };
+    match refusal {
+        1 => (*head, *calendar) = (good, vec![0; 30]),
+        8 => calendar.fill(0),
+        40 => lent.resize(53, 0),
+        _ => head[places.clone()].copy_from_slice(&good[places]),
+    }
+}
+
+/// Sets right all that a refusal of a point's writing looks at.
+fn set_point_right(tag: &mut u8, value: &mut Vec<u8>, lent: &mut Vec<u8>, refusal: u32) {
+    match (refusal, *tag) {
+        (11, _) => *tag = if value.len() == 5_975 { 3 } else { 4 },
+        (12, 3) => *value = ConsumerFields::flat(1, 1, 1).value(),
+        (12, _) => *value = GeneratorFields::flat(1, 1, 1).value(),
+        (14, _) => value[..22].fill(b'1'),
+        (16, 3) => value[22] = 1,
+        (16, _) => value[22..26].fill(0),
+        (17, 3) => value[23..].fill(0),
+        (17, _) => value[26..].fill(0),
+        _ => lent.resize(3 + value.len(), 0),
+    }
+}
+
+/// The number that a writing answers once its first refusal is set right.
+fn next_refusal(call: &Call, refusal: u32) -> u32 {
+    let mut right = call.clone();
+    match &mut right {
+        Call::WritingHead {
+            head,
+            calendar,
+            lent,
+        } => set_head_right(head, calendar, lent, refusal),
+        Call::WritingPoint { tag, value, lent } => set_point_right(tag, value, lent, refusal),
+        _ => (),
+    }
+    right.answer().0
+}
+
+/// Each refusal alone, which is before 0, and before each of those behind it.
+fn alone_and_before(refusals: &[u32]) -> BTreeSet<(u32, u32)> {
+    let mut pairs = BTreeSet::new();
+    for (place, &refusal) in refusals.iter().enumerate() {
+        let behind = refusals[place + 1..].iter();
+        pairs.extend(behind.chain(&[0]).map(|&next| (refusal, next)));
+    }
+    pairs
+}
+
+#[test]
+fn refusals_of_writing_alone_and_before_others() {
+    let mut seen: BTreeMap<&str, BTreeSet<(u32, u32)>> = BTreeMap::new();
+    for call in stored_calls() {
+        let refusal = call.answer().0;
+        if field_and_lent(&call).is_some() && refusal != 0 {
+            let pair = (refusal, next_refusal(&call, refusal));
+            seen.entry(written(&call)).or_default().insert(pair);
+        }
+    }
+    let mut of_a_head = alone_and_before(&[2, 3, 4, 5, 6, 7, 8, 40]);
+    of_a_head.remove(&(2, 3)); // a date is never both
+    of_a_head.extend([(1, 0), (1, 40)]); // no fields in other lengths
+    assert_eq!(seen["head"], of_a_head);
+    let mut of_a_point = alone_and_before(&[14, 16, 17, 40]);
+    of_a_point.extend([(12, 0), (12, 40)]);
+    assert_eq!(seen["consumer"], of_a_point);
+    assert_eq!(seen["generator"], of_a_point);
+    let of_another_tag = [0, 12, 14, 16, 17, 40].map(|next| (11, next));
+    assert_eq!(seen["other"], BTreeSet::from(of_another_tag));
+}
+
 #[test]
 fn calls_are_read_back() {
     let calls = stored_calls();
@@ -220,6 +379,25 @@ fn a_cut_call_is_seen() {
         read_calls(&[&long[..], &[0; 7_000]].concat()),
         (vec![], false)
     );
+    for writing in [
+        Call::WritingHead {
+            head: vec![1; 17],
+            calendar: vec![0; 30],
+            lent: vec![7; 53],
+        },
+        Call::WritingPoint {
+            tag: 4,
+            value: vec![b'1'; 50],
+            lent: vec![],
+        },
+    ] {
+        let bytes = writing.bytes();
+        for cut in 1..bytes.len() {
+            assert_eq!(read_calls(&bytes[..cut]), (vec![], false));
+        }
+        assert_eq!(read_calls(&bytes), (vec![writing], true));
+    }
+    assert_eq!(read_calls(&[6; 9_000]), (vec![], false));
 }
 
 #[test]

@@ -9,13 +9,6 @@ use Rattle.numbers.specs.Lists.{run}
 use Rattle.numbers.specs.Words.{word16, word32}
 use Rattle.heads.specs.declared.Head.{Head}
 use Rattle.ledger.specs.declared.State.{State}
-use Rattle.call_vectors.specs.declared.parts.Part.{Part}
-use Rattle.call_vectors.specs.declared.parts.Part.the-variants.{Whole, Cut}
-
--- the length of a part that was read; 0 where it was cut
-abbrev pub lengthOf : Part → ℕ
-lengthOf (Whole n) = n
-lengthOf Cut = 0
 
 -- two's complement: the number that eight bytes stand for
 abbrev pub signedOf : ℕ → ℤ

@@ -1,47 +1,42 @@
-// The calls: each is read, made and answered by a line. A call that is not there as a whole answers false.
-// A consumer's value has 5,975 bytes; there is room for 6,000, so that wrong lengths can be tried too.
+// The calls: each is read, made and answered by a line. Every function tells whether that was done; where it was not,
+// the fault was told.
 ghost use mathlib.Core.Path.{_≡_};
 ghost use lib.ListN.{length};
+use crate::faults;
 use crate::parts;
-use crate::parts::Part;
 use crate::text;
 use ledger::State;
 
-fn answer_opening(head: &[u8], calendar: &[u8]) {
+// Most bytes of a part: a consumer's field has 5,978, and wrong lengths can be tried too.
+const MOST_BYTES: usize = 6000;
+
+fn answer_opening(head: &[u8], calendar: &[u8]) -> bool {
     let opened = ledger::open(head, calendar);
-    text::number(b"opening ", opened.refusal as u64);
     let state = opened.state;
-    text::state(state);
-    text::put(b"\n");
+    text::line(text::number(b"opening ", opened.refusal as u64) & text::state(state))
 }
 
 pub fn opening() -> bool {
-    let mut head = [0u8; 6000];
+    let mut head = [0u8; MOST_BYTES];
     let head_part = parts::read_part(&mut head);
-    let Part::Whole { length } = head_part else {
+    if !head_part.whole {
         return false;
-    };
-    opening_with(&head[0..length])
+    }
+    let mut calendar = [0u8; MOST_BYTES];
+    let calendar_part = parts::read_part(&mut calendar);
+    if !calendar_part.whole {
+        return false;
+    }
+    let head_length = head_part.length;
+    let calendar_length = calendar_part.length;
+    answer_opening(&head[0..head_length], &calendar[0..calendar_length])
 }
 
-// The calendar stands behind the head.
-fn opening_with(head: &[u8]) -> bool {
-    let mut calendar = [0u8; 6000];
-    let part = parts::read_part(&mut calendar);
-    let Part::Whole { length } = part else {
-        return false;
-    };
-    answer_opening(head, &calendar[0..length]);
-    true
-}
-
-fn answer_adding(state: State, tag: u8, value: &[u8], places: &mut [i64]) {
+fn answer_adding(state: State, tag: u8, value: &[u8], places: &mut [i64]) -> bool {
     let added = ledger::add(state, tag, value, places);
-    text::number(b"adding ", added.refusal as u64);
     let after = added.state;
-    text::state(after);
-    text::signed_list(b" places", places);
-    text::put(b"\n");
+    let state_text = text::number(b"adding ", added.refusal as u64) & text::state(after);
+    text::line(state_text & text::signed_list(b" places", places))
 }
 
 pub fn adding() -> bool {
@@ -69,7 +64,7 @@ fn places_of(bytes: [u8; 64]) -> [i64; 8]
 fn adding_to(state: State, tag: u8, lent: u8) -> bool {
     let count = lent as usize;
     if 8 < count {
-        return false;
+        return faults::cut();
     }
     let mut bytes = [0u8; 64];
     if !parts::read_bytes(&mut bytes[0..count * 8]) {
@@ -81,21 +76,19 @@ fn adding_to(state: State, tag: u8, lent: u8) -> bool {
 
 // The value stands last.
 fn adding_with(state: State, tag: u8, places: &mut [i64]) -> bool {
-    let mut value = [0u8; 6000];
+    let mut value = [0u8; MOST_BYTES];
     let part = parts::read_part(&mut value);
-    let Part::Whole { length } = part else {
+    if !part.whole {
         return false;
-    };
-    answer_adding(state, tag, &value[0..length], places);
-    true
+    }
+    let size = part.length;
+    answer_adding(state, tag, &value[0..size], places)
 }
 
-fn answer_closing(state: State) {
+fn answer_closing(state: State) -> bool {
     let closed = ledger::close(state);
-    text::number(b"closing ", closed.refusal as u64);
     let figures = closed.figures;
-    text::figures(figures);
-    text::put(b"\n");
+    text::line(text::number(b"closing ", closed.refusal as u64) & text::figures(figures))
 }
 
 pub fn closing() -> bool {
@@ -103,6 +96,61 @@ pub fn closing() -> bool {
     if !parts::read_bytes(&mut bytes) {
         return false;
     }
-    answer_closing(parts::state_of(&bytes));
-    true
+    answer_closing(parts::state_of(&bytes))
+}
+
+fn answer_writing_head(head: &[u8], calendar: &[u8], lent: &mut [u8]) -> bool {
+    let refusal = fields::writing::write_head(head, calendar, lent);
+    text::line(text::number(b"writing head ", refusal as u64) & text::lent(lent))
+}
+
+pub fn writing_head() -> bool {
+    let mut head = [0u8; MOST_BYTES];
+    let head_part = parts::read_part(&mut head);
+    if !head_part.whole {
+        return false;
+    }
+    let mut calendar = [0u8; MOST_BYTES];
+    let calendar_part = parts::read_part(&mut calendar);
+    if !calendar_part.whole {
+        return false;
+    }
+    let mut lent = [0u8; MOST_BYTES];
+    let lent_part = parts::read_part(&mut lent);
+    if !lent_part.whole {
+        return false;
+    }
+    let head_length = head_part.length;
+    let calendar_length = calendar_part.length;
+    let lent_length = lent_part.length;
+    answer_writing_head(
+        &head[0..head_length],
+        &calendar[0..calendar_length],
+        &mut lent[0..lent_length],
+    )
+}
+
+fn answer_writing_point(tag: u8, value: &[u8], lent: &mut [u8]) -> bool {
+    let refusal = fields::writing::write_point(tag, value, lent);
+    text::line(text::number(b"writing point ", refusal as u64) & text::lent(lent))
+}
+
+pub fn writing_point() -> bool {
+    let mut tag = [0u8; 1];
+    if !parts::read_bytes(&mut tag) {
+        return false;
+    }
+    let mut value = [0u8; MOST_BYTES];
+    let value_part = parts::read_part(&mut value);
+    if !value_part.whole {
+        return false;
+    }
+    let mut lent = [0u8; MOST_BYTES];
+    let lent_part = parts::read_part(&mut lent);
+    if !lent_part.whole {
+        return false;
+    }
+    let value_length = value_part.length;
+    let lent_length = lent_part.length;
+    answer_writing_point(tag[0], &value[0..value_length], &mut lent[0..lent_length])
 }

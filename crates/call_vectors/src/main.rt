@@ -1,10 +1,9 @@
 // Reads single calls of the ledger on standard input, makes each and prints its whole answer on a line.
 // docs/VECTORS.md has the form of both.
-ghost use mathlib.Core.Path.{_≡_};
-use libc::STDERR_FILENO;
-use libc::STDIN_FILENO;
+use crate::parts::Input;
 
 mod calls;
+mod faults;
 mod parts;
 mod text;
 
@@ -15,30 +14,30 @@ const ADDING: u8 = 2;
 
 const CLOSING: u8 = 3;
 
+const WRITING_HEAD: u8 = 4;
+
+const WRITING_POINT: u8 = 5;
+
 // One call: whether to go on.
 fn answer_call() -> bool {
     let mut kind = [0u8; 1];
-    let got = io::read_full(STDIN_FILENO, &mut kind);
-    if got == 0 {
-        return false;
+    let input = parts::fill(&mut kind);
+    match input {
+        Input::Whole => make_call(kind[0]),
+        Input::Ended => false,
+        Input::Failed => faults::unread(),
     }
-    let whole = make_call(kind[0]);
-    if !whole {
-        io::write_all(
-            STDERR_FILENO,
-            b"call_vectors: a call is cut or has no such form\n",
-        );
-    }
-    whole
 }
 
-// The call of a kind: whether it was there as a whole.
+// The call of a kind: whether it was read, made and answered; where not, the fault was told.
 fn make_call(kind: u8) -> bool {
     match kind {
         OPENING => calls::opening(),
         ADDING => calls::adding(),
         CLOSING => calls::closing(),
-        _ => false,
+        WRITING_HEAD => calls::writing_head(),
+        WRITING_POINT => calls::writing_point(),
+        _ => faults::cut(),
     }
 }
 

@@ -3,42 +3,80 @@ ghost use mathlib.Core.Path.{_≡_};
 ghost use Prim.Native.Nat.{_+_, _*_, _≤_};
 ghost use lib.ListN.{length};
 ghost use Rattle.numbers.specs.Lists.{run};
-ghost use Rattle.call_vectors.specs.Parts.{lengthOf, signedOf, signedAt, signedIn, headIn, stateIn};
+ghost use Rattle.call_vectors.specs.Parts.{signedOf, signedAt, signedIn, headIn, stateIn};
+use crate::faults;
 use heads::Head;
 use ledger::State;
 use libc::STDIN_FILENO;
 
-// What was read of a part with its length in front.
-pub enum Part {
-    Whole { length: usize },
-    Cut,
+// What came of filling some bytes: the input may end before them or among them, and a read may fail.
+pub enum Input {
+    Whole,
+    Ended,
+    Failed,
 }
 
-// Fills the bytes: whether as many were there.
+// A part with its length in front; a part that is not whole has no length.
+pub struct Part {
+    pub whole: bool,
+    pub length: usize,
+}
+
+// Fills the bytes from standard input.
+pub fn fill(bytes: &mut [u8]) -> Input
+    ensures { λ _. ⌜ length (now (bytes .exit)) ≡ length (now (bytes .entry)) ⌝ }
+{
+    let mut done: usize = 0;
+    while done < bytes.len() {
+        let got = libc::read(STDIN_FILENO, &mut bytes[done..]);
+        if got < 0 {
+            return Input::Failed;
+        }
+        let more = io::count(got, &bytes[done..]);
+        if more == 0 {
+            return Input::Ended;
+        }
+        done += more;
+    }
+    Input::Whole
+}
+
+// Fills the bytes in the middle of a call: whether as many were there; where not, the fault was told.
 pub fn read_bytes(bytes: &mut [u8]) -> bool
     ensures { λ _. ⌜ length (now (bytes .exit)) ≡ length (now (bytes .entry)) ⌝ }
 {
-    let due = bytes.len();
-    let got = io::read_full(STDIN_FILENO, bytes);
-    due <= got
+    let input = fill(bytes);
+    match input {
+        Input::Whole => true,
+        Input::Ended => faults::cut(),
+        Input::Failed => faults::unread(),
+    }
 }
 
 // A length of two bytes and as many bytes, which go to the front of the room; a part with no room is cut.
 pub fn read_part(room: &mut [u8]) -> Part
-    ensures { λ r. ⌜ lengthOf r ≤ length (now (room .entry)) ⌝ }
+    ensures { λ r. ⌜ r .length ≤ length (now (room .entry)) ⌝ }
 {
+    let missing = Part {
+        whole: false,
+        length: 0,
+    };
     let mut front = [0u8; 2];
     if !read_bytes(&mut front) {
-        return Part::Cut;
+        return missing;
     }
     let length = numbers::big16(front[0], front[1]) as usize;
     if room.len() < length {
-        return Part::Cut;
+        faults::cut();
+        return missing;
     }
     if !read_bytes(&mut room[0..length]) {
-        return Part::Cut;
+        return missing;
     }
-    Part::Whole { length }
+    Part {
+        whole: true,
+        length,
+    }
 }
 
 // Two's complement in two words, the high one first.

@@ -1,6 +1,8 @@
 //! The stored calls: boundary values of every field, faults in every
 //! combination, states that no call gave, and seeded lists call by call.
 
+mod writing;
+
 use super::{Call, MOST_BYTES, MOST_PLACES};
 use crate::books::edges::{ALLOWED_DATES, OTHER_DATES};
 use crate::books::fields::*;
@@ -28,6 +30,7 @@ pub fn stored_calls() -> Vec<Call> {
         consumer_faults(),
         eligible_days_left(),
         seeded_lists(),
+        writing::writing_calls(),
     ];
     parts.concat()
 }
@@ -173,25 +176,40 @@ fn opening_dates() -> Vec<Call> {
     dates.iter().map(opening_on).collect()
 }
 
-/// Whether a set of faults, one bit each, holds a fault.
-fn holds(faults: u32, fault: u32) -> bool {
-    faults >> fault & 1 == 1
+/// Whether a set of faults holds one; the bit of a fault is its refusal.
+fn holds(faults: u32, refusal: u32) -> bool {
+    faults >> refusal & 1 == 1
+}
+
+/// Every set of faults with these refusals.
+fn sets_of(refusals: &[u32]) -> Vec<u32> {
+    let sets = 0..1 << refusals.len();
+    sets.map(|set: u32| {
+        let places = refusals.iter().enumerate();
+        places.fold(0, |faults, (place, refusal)| {
+            faults | (set >> place & 1) << refusal
+        })
+    })
+    .collect()
+}
+
+/// An opening with the faults of a set, 2 to 8.
+fn faulty_opening(faults: u32) -> Call {
+    let (mut head, mut marks) = (HEAD, NO_MARKS);
+    head.day = if holds(faults, 3) { 3 } else { head.day };
+    head.month = if holds(faults, 2) { 13 } else { head.month };
+    head.first_slot = if holds(faults, 4) { 17 } else { 34 };
+    head.losses[2] = if holds(faults, 5) { 5_001 } else { 5_000 };
+    head.contract = if holds(faults, 6) { 999 } else { 0 };
+    head.count = if holds(faults, 7) { 10_001 } else { 10_000 };
+    marks[29] = if holds(faults, 8) { 4 } else { 3 };
+    opening(head, marks)
 }
 
 /// Every set of the faults 2 to 8; a date cannot be both 2 and 3.
 fn opening_faults() -> Vec<Call> {
-    let of_faults = |faults: u32| {
-        let (mut head, mut marks) = (HEAD, NO_MARKS);
-        head.day = if holds(faults, 1) { 3 } else { head.day };
-        head.month = if holds(faults, 0) { 13 } else { head.month };
-        head.first_slot = if holds(faults, 2) { 17 } else { 34 };
-        head.losses[2] = if holds(faults, 3) { 5_001 } else { 5_000 };
-        head.contract = if holds(faults, 4) { 999 } else { 0 };
-        head.count = if holds(faults, 5) { 10_001 } else { 10_000 };
-        marks[29] = if holds(faults, 6) { 4 } else { 3 };
-        opening(head, marks)
-    };
-    (0..1 << 7).map(of_faults).collect()
+    let sets = sets_of(&[2, 3, 4, 5, 6, 7, 8]);
+    sets.into_iter().map(faulty_opening).collect()
 }
 
 /// Heads and calendars of wrong lengths, alone and with every other fault.
@@ -351,33 +369,34 @@ fn seeded_states() -> Vec<Call> {
     calls
 }
 
+/// Adding a generator with the faults of a set, 9 to 17.
+fn faulty_generator(faults: u32) -> Call {
+    let mut state = begun_state();
+    state.marks[0] = if holds(faults, 9) { 4 } else { 3 };
+    state.count = if holds(faults, 10) { 1 } else { 2 };
+    let number = if holds(faults, 15) { LAST } else { LAST + 1 };
+    let mut generator = GeneratorFields::flat(number, 1_000_000, HIGHEST_READING);
+    if holds(faults, 14) {
+        generator.number[21] = b'/';
+    }
+    generator.baseline += u32::from(holds(faults, 16));
+    generator.readings[5] += u32::from(holds(faults, 17));
+    let mut value = generator.value();
+    if holds(faults, 12) {
+        value.push(0);
+    }
+    Call::Adding {
+        state,
+        tag: if holds(faults, 11) { 5 } else { GENERATOR_TAG },
+        places: lent(if holds(faults, 13) { 7 } else { 6 }),
+        value,
+    }
+}
+
 /// Every set of the faults 9 to 17 of a generator.
 fn adding_faults() -> Vec<Call> {
-    let of_faults = |faults: u32| {
-        let mut state = begun_state();
-        state.marks[0] = if holds(faults, 0) { 4 } else { 3 };
-        state.count = if holds(faults, 1) { 1 } else { 2 };
-        let number = if holds(faults, 6) { LAST } else { LAST + 1 };
-        let mut generator = GeneratorFields::flat(number, 1_000_000, HIGHEST_READING);
-        generator.number[21] = if holds(faults, 5) {
-            b'/'
-        } else {
-            generator.number[21]
-        };
-        generator.baseline += u32::from(holds(faults, 7));
-        generator.readings[5] += u32::from(holds(faults, 8));
-        let mut value = generator.value();
-        if holds(faults, 3) {
-            value.push(0);
-        }
-        Call::Adding {
-            state,
-            tag: if holds(faults, 2) { 5 } else { GENERATOR_TAG },
-            places: lent(if holds(faults, 4) { 7 } else { 6 }),
-            value,
-        }
-    };
-    (0..1 << 9).map(of_faults).collect()
+    let sets = sets_of(&[9, 10, 11, 12, 13, 14, 15, 16, 17]);
+    sets.into_iter().map(faulty_generator).collect()
 }
 
 /// Tags with values of all lengths around those that are due.
@@ -505,29 +524,30 @@ fn consumer_edges() -> Vec<Call> {
     points.map(|point| adding_point(&state, &point)).collect()
 }
 
+/// Adding a consumer with the faults of a set, 13 to 18.
+fn faulty_consumer(faults: u32) -> Call {
+    let mut state = begun_state();
+    let mark = if holds(faults, 18) { 1 } else { 0 };
+    state.marks = [mark; DAYS_BACK];
+    let mut consumer = level_consumer(3, HIGHEST_READING);
+    consumer.number = point_number(LAST + u128::from(!holds(faults, 15)));
+    if holds(faults, 14) {
+        consumer.number[0] = b':';
+    }
+    consumer.class += u8::from(holds(faults, 16));
+    consumer.readings[1_487] += u32::from(holds(faults, 17));
+    Call::Adding {
+        state,
+        tag: CONSUMER_TAG,
+        places: lent(if holds(faults, 13) { 5 } else { 6 }),
+        value: consumer.value(),
+    }
+}
+
 /// Every set of the faults 13 to 18 of a consumer.
 fn consumer_faults() -> Vec<Call> {
-    let of_faults = |faults: u32| {
-        let mut state = begun_state();
-        let mark = if holds(faults, 5) { 1 } else { 0 };
-        state.marks = [mark; DAYS_BACK];
-        let mut consumer = level_consumer(3, HIGHEST_READING);
-        consumer.number = point_number(LAST + u128::from(!holds(faults, 2)));
-        consumer.number[0] = if holds(faults, 1) {
-            b':'
-        } else {
-            consumer.number[0]
-        };
-        consumer.class += u8::from(holds(faults, 3));
-        consumer.readings[1_487] += u32::from(holds(faults, 4));
-        Call::Adding {
-            state,
-            tag: CONSUMER_TAG,
-            places: lent(if holds(faults, 0) { 5 } else { 6 }),
-            value: consumer.value(),
-        }
-    };
-    (0..1 << 6).map(of_faults).collect()
+    let sets = sets_of(&[13, 14, 15, 16, 17, 18]);
+    sets.into_iter().map(faulty_consumer).collect()
 }
 
 /// Marks that leave 0 to 7 eligible days, the readings all equal or all 0.
@@ -561,6 +581,18 @@ fn calls_of(list: &List) -> Vec<Call> {
     calls
 }
 
+/// The calls of seeded lists, so many of each kind.
+fn calls_of_lists(kinds: &[(Kind, usize)], seed: u64) -> Vec<Call> {
+    let mut random = Random::new(seed);
+    let mut calls = Vec::new();
+    for &(kind, lists) in kinds {
+        for _ in 0..lists {
+            calls.extend(calls_of(&kind(&mut random)));
+        }
+    }
+    calls
+}
+
 /// Seeded lists of each kind, more of those with few consumers.
 fn seeded_lists() -> Vec<Call> {
     let kinds: [(Kind, usize); 14] = [
@@ -579,12 +611,5 @@ fn seeded_lists() -> Vec<Call> {
         (total_near_multiple, 40),
         (many_generators, 4),
     ];
-    let mut random = Random::new(8_796);
-    let mut calls = Vec::new();
-    for (kind, lists) in kinds {
-        for _ in 0..lists {
-            calls.extend(calls_of(&kind(&mut random)));
-        }
-    }
-    calls
+    calls_of_lists(&kinds, 8_796)
 }

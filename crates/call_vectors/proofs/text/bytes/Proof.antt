@@ -5,10 +5,10 @@ use Rattle.call_vectors.proofs.text.bytes.Statement.{statement}
 use Rattle.call_vectors.proofs.text.bytes.Tie as tie
 
 abbrev Inv-loop : tie.InvT-loop
-Inv-loop name list i₀ i = Unit {0}
+Inv-loop name list written₀ i₀ written i = Unit {0}
 
 abbrev μ-loop : tie.MeasureT-loop
-μ-loop name list i₀ i = length list - i
+μ-loop name list written₀ i₀ written i = length list - i
 
 put-requires : tie.Need-put-requires Inv-loop μ-loop
 put-requires c κs = search needs

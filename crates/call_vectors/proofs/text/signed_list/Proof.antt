@@ -5,10 +5,10 @@ use Rattle.call_vectors.proofs.text.signed_list.Statement.{statement}
 use Rattle.call_vectors.proofs.text.signed_list.Tie as tie
 
 abbrev Inv-loop : tie.InvT-loop
-Inv-loop name list i₀ t4 i = Unit {0}
+Inv-loop name list written₀ i₀ t5 written i = Unit {0}
 
 abbrev μ-loop : tie.MeasureT-loop
-μ-loop name list i₀ t4 i = length list - i
+μ-loop name list written₀ i₀ t5 written i = length list - i
 
 put-requires : tie.Need-put-requires Inv-loop μ-loop
 put-requires c κs = search needs
@@ -16,11 +16,8 @@ put-requires c κs = search needs
 loop-holds : tie.Need-loop-holds Inv-loop μ-loop
 loop-holds c = search needs
 
-slice-aggregate-put : tie.Need-slice-aggregate-put Inv-loop μ-loop
-slice-aggregate-put c = search needs
-
-put-requires-2 : tie.Need-put-requires-2 Inv-loop μ-loop
-put-requires-2 c κs = search needs
+slice-aggregate-signed : tie.Need-slice-aggregate-signed Inv-loop μ-loop
+slice-aggregate-signed c = search needs
 
 mul-signed : tie.Need-mul-signed Inv-loop μ-loop
 mul-signed c = search needs
@@ -51,8 +48,7 @@ signed-list-spec =
     μ-loop
     put-requires
     loop-holds
-    slice-aggregate-put
-    put-requires-2
+    slice-aggregate-signed
     mul-signed
     shared-slice-copy-out-signed
     signed-requires
