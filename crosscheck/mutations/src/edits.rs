@@ -63,3 +63,21 @@ pub fn read_edits(folder: &Path) -> Result<Vec<Edit>, String> {
     edits.sort_by(|one, other| one.name.cmp(&other.name));
     Ok(edits)
 }
+
+#[cfg(test)]
+mod tests {
+    use super::*;
+
+    /// The list is tried in full by the program; here no edit may fall behind the sources.
+    #[test]
+    fn every_edit_fits_its_source() {
+        let here = Path::new(env!("CARGO_MANIFEST_DIR"));
+        let edits = read_edits(&here.join("edits")).expect("the list is read");
+        assert!(40 <= edits.len());
+        for edit in edits {
+            let source = fs::read_to_string(here.join("..").join(&edit.file)).expect(&edit.name);
+            let changed = edit.apply(&source).expect(&edit.name);
+            assert_ne!(changed, source, "{}", edit.name);
+        }
+    }
+}
