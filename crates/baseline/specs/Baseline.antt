@@ -4,7 +4,7 @@ use Prim.Native.Nat.{ℕ, _+_, _*_, _-_}
 use lib.ListN.{getD}
 use Rattle.numbers.specs.Lists.{sum}
 use Rattle.calendar.specs.Eligible.{ofDay, eligibleDays}
-use Rattle.readings.specs.Readings.{windowSums, daySums, earlierUse}
+use Rattle.readings.specs.Readings.{windowSums}
 use Rattle.baseline.specs.Choosing.{chosen}
 
 -- the four days of a consumer, for the count of the test day

@@ -1,5 +1,5 @@
 -- Choosing four days (document 01). A day is its number back; lists of days have the nearest first; `w k` is the window sum of day k.
-use mathlib.Core.Bool.{Bool, cond, not}
+use mathlib.Core.Bool.{cond, not}
 use mathlib.Core.List.{List, [], _∷_, _++_, map}
 use Prim.Native.Nat.{ℕ, zero, suc, _*_}
 use lib.Dec.{leb, ltb, eqb}

@@ -1,5 +1,5 @@
 -- Reading, step by step: what a book that is read in full went through, and that a refusal is never 0. Assumes nothing.
-use mathlib.Core.Path.{_≡_, refl, sym, _∙_}
+use mathlib.Core.Path.{_≡_, refl}
 use mathlib.Core.Bool.{Bool, true, false, cond}
 use mathlib.Core.List.{List, []}
 use Prim.Native.Nat.{ℕ, zero, suc}
@@ -9,12 +9,9 @@ use lib.Dec.{eqb}
 use lib.ListN.{length}
 use Rattle.ledger.specs.Operations.{openOf, addOf}
 use Rattle.ledger.specs.declared.State.{State}
-use Rattle.fields.specs.Fields.{fieldOf}
-use Rattle.book.specs.Reading.{Reading, refused, good, _>>=_, unless, Part, handedOn, field, openTest, addPoint, Points, before, readPoints, Book, bookOf, readBook}
+use Rattle.book.specs.Reading.{Reading, refused, good, _>>=_, unless, Part, field, openTest, addPoint, Points, before, readPoints, Book, bookOf, readBook}
 use Rattle.fields.specs.declared.Due.{Due}
 use Rattle.fields.specs.declared.Due.the-variants.{Head, Calendar, Point}
-use Rattle.fields.specs.declared.Field.{Field}
-use Rattle.fields.specs.declared.Field.the-variants.{Value, Refused}
 use Rattle.fields.proofs.Answers.{Answer, no-header, no-value, whole, answer}
 
 -- ---- one step

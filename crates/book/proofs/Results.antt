@@ -1,11 +1,11 @@
 -- The result bytes: words of eight bytes, one after the other, byte by byte; the figures of an accepted closing fit them. Assumes nothing.
 use mathlib.Core.Path.{_≡_, refl, sym, ap, _∙_}
-use mathlib.Core.Bool.{Bool, true, false, not, _&&_, _||_}
+use mathlib.Core.Bool.{Bool, true, false}
 use mathlib.Core.List.{List, [], _∷_, _++_}
-use Prim.Native.Nat.{ℕ, suc, _+_, _-_, _*_, _/_, _%_, _^_, _<_, _≤_}
+use Prim.Native.Nat.{ℕ, suc, _+_, _-_, _*_, _/_, _%_, _^_, _<_}
 use native.Mathlib.Omega.{arith}
-use borrow.Author.Tests.{ltb-true, ltb-false, leb-true, eqb-true, le-ltb}
-use lib.Dec.{leb, ltb, eqb}
+use borrow.Author.Tests.{ltb-true, ltb-false, le-ltb}
+use lib.Dec.{ltb}
 use lib.IntN.{ℤ, pos, negsuc}
 use lib.Signed.{mag}
 use mir.Syntax.{w64}
@@ -16,15 +16,11 @@ use lib.Seq.{getD-append-add}
 use Rattle.numbers.specs.Lists.{gather}
 use Rattle.numbers.specs.Integers.{sumℤ}
 use Rattle.numbers.specs.Words.{bytesOf, twosComplement}
-use Rattle.numbers.proofs.Refusals.{clear}
-use Rattle.heads.specs.Heads.{contentTests, contentRefusal}
-use Rattle.ledger.specs.States.{isUnsound}
 use Rattle.ledger.specs.Figures.{settledOf, shortfallOf, expectedOf, figuresOf}
-use Rattle.ledger.specs.Operations.{closingRefusal, closeOf}
-use Rattle.heads.specs.declared.Head.{Head}
+use Rattle.ledger.specs.Operations.{closeOf}
 use Rattle.ledger.specs.declared.State.{State}
 use Rattle.ledger.proofs.FigureSteps.{shortfall-above, shortfall-below}
-use Rattle.ledger.proofs.Sound.{close-refusal, close-good, sound}
+use Rattle.ledger.proofs.Sound.{close-refusal, close-good}
 use Rattle.numbers.proofs.Machine.{back}
 use Rattle.book.specs.Results.{SmallWords, wordBytes}
 

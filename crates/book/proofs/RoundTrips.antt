@@ -1,12 +1,12 @@
 -- DEMAND 2, its second half: both round trips. Assumes nothing.
 use mathlib.Core.Path.{_≡_, refl, sym, ap, subst, _∙_}
-use mathlib.Core.Bool.{Bool, true, false, not, _&&_, Bool·not-not}
+use mathlib.Core.Bool.{Bool, true, false, not, _&&_}
 use mathlib.Core.List.{List, [], _∷_, _++_, append-assoc}
-use Prim.Native.Nat.{ℕ, zero, suc, _+_, _<_, _≤_}
+use Prim.Native.Nat.{ℕ, zero, suc, _+_, _<_}
 use native.Mathlib.Nat.{zero-add}
 use native.Mathlib.Numerals.{add-one}
 use native.Mathlib.Omega.{arith}
-use borrow.Author.Tests.{leb-false, eqb-true, not-false, lt-leb, lt-ltb, le-ltb}
+use borrow.Author.Tests.{eqb-true, not-false, lt-leb, lt-ltb, le-ltb}
 use lib.Dec.{T, ltb, eqb}
 use lib.ListN.{length}
 use mir.Facts.{and-yes, yes-and}
@@ -14,20 +14,20 @@ use Rattle.numbers.specs.Lists.{gather}
 use Rattle.numbers.specs.PointNumbers.{below}
 use Rattle.numbers.proofs.Refusals.{testOf, untold, clear-zero}
 use Rattle.heads.specs.Heads.{headOf}
-use Rattle.points.specs.Points.{Point, kindOf, isUnknown, numberOf, lacksDays}
+use Rattle.points.specs.Points.{Point, kindOf, numberOf, lacksDays}
 use Rattle.ledger.specs.States.{opened, taken}
 use Rattle.ledger.specs.Operations.{pointTests, pointRefusal, addingTests, addingRefusal, resultsOf, addOf}
 use Rattle.heads.specs.declared.Head.{Head}
 use Rattle.ledger.specs.declared.State.{State}
 use Rattle.heads.proofs.Opening.{opening-lengths}
 use Rattle.ledger.proofs.Sound.{open-refusal, open-good, add-refusal, add-good, Sound, opened-sound, adding-sound, taken-sound}
-use Rattle.fields.specs.Fields.{isTag, written}
-use Rattle.book.specs.Reading.{Reading, good, Part, Points, before, readPoints, Contents, Book, bookOf, readBook}
-use Rattle.fields.specs.Writing.{pointWritingTests, pointWritingRefusal, writtenHead}
-use Rattle.book.specs.Demand2.{risesAfter, rises, roomFor, Each, Writable, Bytes, ReadsBack, WritesSame, writtenBook}
+use Rattle.fields.specs.Fields.{written}
+use Rattle.book.specs.Reading.{good, Points, before, readPoints, Book, bookOf, readBook}
+use Rattle.fields.specs.Writing.{pointWritingTests, pointWritingRefusal}
+use Rattle.book.specs.Demand2.{risesAfter, rises, roomFor, Each, Bytes, ReadsBack, WritesSame, writtenBook}
 use Rattle.fields.specs.declared.Due.the-variants as due
 use Rattle.book.proofs.Cutting.{reads-field, was-written}
-use Rattle.book.proofs.Readings.{Points-read, none, more, Book-read, book-read}
+use Rattle.book.proofs.Readings.{Points-read, none, more, book-read}
 
 -- ---- rising numbers, from a number of points and the last number on
 

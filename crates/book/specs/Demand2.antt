@@ -1,18 +1,18 @@
 -- DEMAND 2, its second half: a book that we write reads back, and a book that is read in full would be written with the same bytes.
 use mathlib.Core.Path.{_≡_}
-use mathlib.Core.Bool.{Bool, true, false, not, _&&_}
+use mathlib.Core.Bool.{Bool, true, not, _&&_}
 use mathlib.Core.List.{List, [], _∷_, _++_, map}
 use Prim.Native.Nat.{ℕ, _+_, _<_}
 use lib.Dec.{T}
 use lib.ListN.{length, getD}
-use Rattle.numbers.specs.Lists.{any, gather}
+use Rattle.numbers.specs.Lists.{gather}
 use Rattle.numbers.specs.PointNumbers.{below}
 use Rattle.heads.specs.Heads.{headOf, openingRefusal}
 use Rattle.points.specs.Points.{Point, kindOf, numberOf, lacksDays}
 use Rattle.ledger.specs.Operations.{closeOf}
 use Rattle.ledger.specs.Account.{Call, adding, closing}
-use Rattle.ledger.specs.Demand3.{Reply, accepted, closed, program}
-use Rattle.book.specs.Reading.{Reading, refused, good, Contents, Book, readBook}
+use Rattle.ledger.specs.Demand3.{accepted, closed, program}
+use Rattle.book.specs.Reading.{good, Contents, Book, readBook}
 use Rattle.fields.specs.Fields.{written}
 use Rattle.fields.specs.Writing.{writtenHead, pointWritingRefusal}
 use Rattle.book.specs.Settling.{settlingRefusal}

@@ -1,5 +1,5 @@
 -- WHOLE BOOK (document 01): the answer, and what the lent 64 bytes hold afterwards.
-use mathlib.Core.Bool.{Bool, cond, not}
+use mathlib.Core.Bool.{cond}
 use mathlib.Core.List.{List, [], _∷_}
 use Prim.Native.Nat.{ℕ}
 use lib.Dec.{eqb}

@@ -1,15 +1,14 @@
 -- A book that is fed field by field ends as the whole book does, and only the due bytes are looked at. Assumes nothing.
 use mathlib.Core.Path.{_≡_, refl, sym, ap, _∙_}
-use mathlib.Core.Bool.{Bool, true, false, not, _&&_}
+use mathlib.Core.Bool.{Bool, true, false, not}
 use mathlib.Core.List.{List, [], _∷_}
 use Prim.Native.Nat.{ℕ, zero, suc, _+_, _*_, _<_, _≤_}
 use native.Mathlib.Decide.{ℕ-discrete}
 use native.Mathlib.Omega.{arith}
-use borrow.Author.Tests.{ltb-true, ltb-false, leb-true, not-false, lt-ltb, le-ltb, eq-eqb, ne-eqb}
-use lib.Dec.{leb, ltb, eqb}
+use borrow.Author.Tests.{ltb-true, ltb-false, lt-ltb, le-ltb, eq-eqb, ne-eqb}
+use lib.Dec.{ltb, eqb}
 use lib.ListN.{length, take, drop, length-take, length-drop}
 use lib.Seq.{drop-drop, take-take}
-use mir.Facts.{and-yes}
 use Rattle.points.specs.Points.{numberOf}
 use Rattle.heads.specs.Heads.{headOf, openingRefusal}
 use Rattle.ledger.specs.States.{noState, opened, taken}
@@ -19,7 +18,7 @@ use Rattle.heads.proofs.Opening.{opening-content}
 use Rattle.ledger.proofs.Sound.{open-refusal, open-good, add-refusal, add-good}
 use Rattle.heads.proofs.Opening.{opens}
 use Rattle.fields.specs.Fields.{tagAt, lengthDue, fieldOf, valueIn, behind}
-use Rattle.fields.specs.Headers.{headerTests, headerRefusal}
+use Rattle.fields.specs.Headers.{headerRefusal}
 use Rattle.book.specs.Reading.{readPoints, readBook}
 use Rattle.book.specs.Endings.{refusedWith, pointsEnding, bookEnding}
 use Rattle.fields.specs.declared.Due.{Due}
@@ -29,7 +28,7 @@ use Rattle.fields.specs.declared.Field.the-variants as field
 use Rattle.fields.proofs.Headers.{header-shows}
 use Rattle.fields.proofs.Answers.{Answer, no-header, no-value, whole, answer}
 use Rattle.book.proofs.Endings.{at-end, past-end, point-not-cut, point-refused, point-taken, no-head, no-calendar, not-opened, was-opened}
-use Rattle.feeding.specs.Feeding.{dueOf, startOf, refusedAt, ended, waiting, headerFed, pointOrEnd, going, got, valueFed, endFed, fedAt, feedOf, fed, endingFed, FieldByField, DueOnly}
+use Rattle.feeding.specs.Feeding.{dueOf, startOf, refusedAt, waiting, headerFed, pointOrEnd, going, got, valueFed, endFed, fedAt, feedOf, fed, endingFed, FieldByField, DueOnly}
 use Rattle.feeding.proofs.Values.{value-cut, value-whole}
 use Rattle.feeding.specs.declared.Wait.{Wait}
 use Rattle.feeding.specs.declared.Wait.the-variants.{Header, Value, End, Nothing}

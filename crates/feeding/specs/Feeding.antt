@@ -2,7 +2,7 @@
 -- there, and what lies behind the due ones is not looked at.
 use mathlib.Core.Path.{_≡_}
 use mathlib.Core.Bool.{Bool, true, false, cond}
-use mathlib.Core.List.{List, []}
+use mathlib.Core.List.{List}
 use Prim.Native.Nat.{ℕ, zero, suc, _≤_}
 use lib.Dec.{ltb, eqb}
 use lib.ListN.{length, take, drop, replicate}

@@ -1,6 +1,6 @@
 -- A field's header: what its tests tell, and what one that is not refused shows. Assumes nothing.
 use mathlib.Core.Path.{_≡_}
-use mathlib.Core.Bool.{Bool, true, false, cond, not, _&&_, and-false}
+use mathlib.Core.Bool.{true, false, cond, not, _&&_, and-false}
 use mathlib.Core.List.{List}
 use Prim.Native.Nat.{ℕ, _≤_, _<_}
 use native.Mathlib.Omega.{arith}
@@ -8,7 +8,7 @@ use borrow.Author.Tests.{ltb-false, eqb-true, not-false, lt-ltb, le-ltb, eq-eqb,
 use lib.Dec.{T, eqb}
 use lib.ListN.{length}
 use Rattle.numbers.specs.Words.{word16}
-use Rattle.numbers.proofs.Refusals.{Clear, numbered, clear}
+use Rattle.numbers.proofs.Refusals.{numbered, clear}
 use Rattle.points.specs.Points.{Kind, consumer, generator, unknown, kindOf, sizeOf}
 use Rattle.fields.specs.Fields.{tagAt, isTag, isPoint, lengthDue}
 use Rattle.fields.specs.Headers.{headerTests, headerRefusal}

@@ -1,22 +1,20 @@
 -- Adding in steps: the early refusals, then the days. Assumes nothing.
-use mathlib.Core.Path.{_≡_, refl, sym, ap, _∙_}
-use mathlib.Core.Bool.{Bool, true, false, cond, not, true≢false}
-use mathlib.Core.List.{List, [], _∷_, _++_}
+use mathlib.Core.Path.{_≡_, refl, sym, _∙_}
+use mathlib.Core.Bool.{Bool, true, false, not, true≢false}
+use mathlib.Core.List.{List, [], _∷_}
 use Prim.Native.Nat.{ℕ, _+_, _<_, _≤_}
 use native.Mathlib.Omega.{arith}
 use lib.Dec.{leb, eqb}
 use lib.IntN.{ℤ, pos, natAbs}
-use lib.ListN.{length, getD, replicate}
+use lib.ListN.{length, getD}
 use borrow.Author.Tests.{leb-false, eqb-true, not-false, eq-eqb, ne-eqb}
 use Rattle.numbers.specs.Refusals.{firstOf}
 use Rattle.numbers.proofs.Refusals.{testOf, untold, told, passed}
-use Rattle.heads.specs.Heads.{contentRefusal}
 use Rattle.points.specs.Points.{Kind, kindOf, isUnknown, sizeOf, isUnfit, hasLarge, lacksDays, results}
-use Rattle.ledger.specs.Operations.{pointRefusal, addingRefusal, placesOf, resultsOf}
+use Rattle.ledger.specs.Operations.{addingRefusal, placesOf, resultsOf}
 use Rattle.ledger.specs.Steps.{earlyTests, earlyRefusal}
 use Rattle.heads.specs.declared.Head.{Head}
 use Rattle.ledger.specs.declared.State.{State}
-use Rattle.results.specs.declared.Found.{Found}
 use Rattle.results.specs.Steps.{foundOf}
 use Rattle.heads.proofs.Opening.{opens}
 use Rattle.points.proofs.PointRows.{known-length}

@@ -18,7 +18,7 @@ use Rattle.ledger.specs.States.{noState, plus, taken}
 use Rattle.ledger.specs.Figures.{figuresOf}
 use Rattle.ledger.specs.Operations.{pointRefusal, addingRefusal, closingRefusal, closeOf}
 use Rattle.ledger.specs.Account.{Call, adding, closing, Account, product, partsOfkW, partsOfWatt, partsOfWh, exactly, exactSum, exactShortfall, opening, Said, said, saysOf, allRefused, account}
-use Rattle.ledger.specs.Demand3.{refused, accepted, closed, replyOf, replies, program, takenBefore, takenAll, allQuotients, roundedTotal, noRemainder, noLoss, keepsFractions, Accurate, Agree, both-refuse, both-accept, both-close, AgreeAll, end, next, Demand3}
+use Rattle.ledger.specs.Demand3.{refused, closed, replyOf, replies, program, takenBefore, takenAll, allQuotients, roundedTotal, noRemainder, noLoss, keepsFractions, Accurate, Agree, both-refuse, both-accept, both-close, AgreeAll, end, next, Demand3}
 use Rattle.heads.specs.declared.Head.{Head}
 use Rattle.ledger.specs.declared.State.{State}
 use Rattle.ledger.specs.declared.Figures.{Figures}

@@ -14,7 +14,7 @@ use Rattle.numbers.proofs.Filling.{any-none}
 use Rattle.numbers.proofs.Refusals.{untold}
 use Rattle.numbers.proofs.Tests.{no-false, noneOf, any-map}
 use Rattle.heads.specs.Limits.{mostResult}
-use Rattle.points.specs.Points.{Kind, kindOf, isUnknown, sizeOf, numberOf, isUnfit, hasLarge, lacksDays, quotients, rounded, results}
+use Rattle.points.specs.Points.{Kind, kindOf, isUnknown, sizeOf, numberOf, isUnfit, hasLarge, lacksDays, quotients, results}
 use Rattle.heads.specs.declared.Head.{Head}
 use Rattle.heads.proofs.Opening.{passed, Opens}
 use Rattle.results.proofs.Bounds.{isBeyond, small-by, six-by}

@@ -1,6 +1,6 @@
 -- The exact account of demand 3 (document 01, 'Closing figures'). It is fed what the calls are given except the state, in their order, and
 -- nothing of the program's answers.
-use mathlib.Core.Bool.{Bool, true, false, cond}
+use mathlib.Core.Bool.{Bool, cond}
 use mathlib.Core.List.{List, [], _∷_, map}
 use mathlib.Core.Option.{Option, none, some}
 use Prim.Native.Nat.{ℕ, _+_, _*_, _-_, _/_}

@@ -1,6 +1,6 @@
 -- The starred examples of document 01, 'Checked examples', as one list: what the definitions give, and what the paper says.
 use mathlib.Core.Path.{_≡_}
-use mathlib.Core.Bool.{Bool, cond, _&&_}
+use mathlib.Core.Bool.{cond, _&&_}
 use mathlib.Core.List.{List, [], _∷_, _++_, map}
 use Prim.Native.Nat.{ℕ, _*_, _%_}
 use lib.Dec.{leb}

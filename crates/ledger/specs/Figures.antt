@@ -1,5 +1,5 @@
 -- The closing figures (document 01, 'Closing figures').
-use mathlib.Core.Bool.{Bool, false}
+use mathlib.Core.Bool.{false}
 use mathlib.Core.List.{List}
 use Prim.Native.Nat.{ℕ, _-_, min}
 use lib.Dec.{leb}

@@ -1,6 +1,6 @@
 -- Points (document 01, 'The test book' and 'Slot results'): consumers, tag 3, and generators, tag 4.
 use mathlib.Core.Bool.{Bool, true, false, cond, not, _&&_}
-use mathlib.Core.List.{List, [], _∷_, map}
+use mathlib.Core.List.{List, [], map}
 use Prim.Native.Nat.{ℕ, _+_, _*_, _-_}
 use lib.Dec.{leb, ltb, eqb}
 use lib.IntN.{ℤ, pos, _-ℤ_, _*ℤ_}

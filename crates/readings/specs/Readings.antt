@@ -1,5 +1,5 @@
 -- A consumer's readings (document 01, 'The test book' and 'Days'): 1,488 of four bytes, the test day's 48, then days 1 to 30 back.
-use mathlib.Core.Bool.{Bool, cond}
+use mathlib.Core.Bool.{cond}
 use mathlib.Core.List.{List, [], _∷_, map}
 use Prim.Native.Nat.{ℕ, zero, suc, _+_, _*_, _-_, _≤_}
 use lib.Dec.{ltb}

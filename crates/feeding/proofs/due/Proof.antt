@@ -3,43 +3,31 @@ use mathlib.Core.Path.{_∙_}
 use borrow.Author.Needs.{needs}
 use Rattle.feeding.proofs.due.Statement.{statement}
 use Rattle.feeding.proofs.due.Tie as tie
-use Rattle.feeding.proofs.due.Reads as reads
-use Rattle.feeding.proofs.due.Lts as lts
-use Rattle.fields.proofs.cutting.length_due.Reads as length-due-reads
 
--- src/lib.rt:31:28
 enum-told : tie.Need-enum-told
 enum-told c = search needs
 
--- src/lib.rt:32:21
 enum-known-wait : tie.Need-enum-known-wait
 enum-known-wait c = search needs
 
--- src/lib.rt:32:35
 length-due-requires : tie.Need-length-due-requires
 length-due-requires c κs = search needs
 
--- src/lib.rt:33:22
 enum-told-2 : tie.Need-enum-told-2
 enum-told-2 c = search needs
 
--- src/lib.rt:34:26
 enum-told-3 : tie.Need-enum-told-3
 enum-told-3 c = search needs
 
--- src/lib.rt:26:1
 returns : tie.Need-returns
 returns c = search needs
 
--- src/lib.rt:26:1
 returns-2 : tie.Need-returns-2
 returns-2 c = let e = c .length-due .ensures in (e .0 ∙ rw (c .before .before .wait .given .1), e .1)
 
--- src/lib.rt:26:1
 returns-3 : tie.Need-returns-3
 returns-3 c = search needs
 
--- src/lib.rt:26:1
 returns-4 : tie.Need-returns-4
 returns-4 c = search needs
 

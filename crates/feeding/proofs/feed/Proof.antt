@@ -1,62 +1,46 @@
 -- By what is waited for.
-use mathlib.Core.Path.{_≡_, sym, ap, _∙_}
+use mathlib.Core.Path.{sym, ap, _∙_}
 use Rattle.feeding.specs.Feeding.{fedAt}
 use borrow.Author.Needs.{needs}
 use Rattle.feeding.proofs.feed.Statement.{statement}
 use Rattle.feeding.proofs.feed.Tie as tie
-use Rattle.feeding.proofs.feed.Reads as reads
-use Rattle.feeding.proofs.feed.Lts as lts
-use Rattle.feeding.proofs.feed_end.Reads as feed-end-reads
-use Rattle.feeding.proofs.feed_header.Reads as feed-header-reads
-use Rattle.feeding.proofs.feed_value.Reads as feed-value-reads
 
--- src/lib.rt:211:22
 enum-known-wait : tie.Need-enum-known-wait
 enum-known-wait c = search needs
 
--- src/lib.rt:211:31
 feed-header-requires : tie.Need-feed-header-requires
 feed-header-requires c κs = search needs
 
--- src/lib.rt:212:21
 enum-known-wait-2 : tie.Need-enum-known-wait-2
 enum-known-wait-2 c = search needs
 
--- src/lib.rt:212:35
 feed-value-requires : tie.Need-feed-value-requires
 feed-value-requires c κs = search needs
 
--- src/lib.rt:213:22
 enum-told : tie.Need-enum-told
 enum-told c = search needs
 
--- src/lib.rt:213:22
 feed-end-requires : tie.Need-feed-end-requires
 feed-end-requires c κs = search needs
 
--- src/lib.rt:214:26
 enum-told-2 : tie.Need-enum-told-2
 enum-told-2 c = search needs
 
--- src/lib.rt:206:1
 returns : tie.Need-returns
 returns c =
     let s = c .before .before .before .before .before in
     c .feed-header .ensures ∙ ap (λ wait. fedAt wait (s .args .progress) (s .args .bytes .now)) (sym (c .before .before .wait .given .1))
 
--- src/lib.rt:206:1
 returns-2 : tie.Need-returns-2
 returns-2 c =
     let s = c .before .before .before .before .before in
     c .feed-value .ensures ∙ ap (λ wait. fedAt wait (s .args .progress) (s .args .bytes .now)) (sym (c .before .before .wait2 .given .1))
 
--- src/lib.rt:206:1
 returns-3 : tie.Need-returns-3
 returns-3 c =
     let s = c .before .before .before .before in
     c .feed-end .ensures ∙ ap (λ wait. fedAt wait (s .args .progress) (s .args .bytes .now)) (sym (c .before .enum-told .given .1))
 
--- src/lib.rt:206:1
 returns-4 : tie.Need-returns-4
 returns-4 c = search needs
 

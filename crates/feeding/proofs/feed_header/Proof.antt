@@ -1,5 +1,5 @@
 -- By the header's refusal.
-use mathlib.Core.Path.{_≡_, sym, _∙_}
+use mathlib.Core.Path.{sym, _∙_}
 use native.Mathlib.Omega.{arith}
 use borrow.Author.Tests.{eq-eqb, ne-eqb}
 use Rattle.feeding.specs.Feeding.{headerFed}
@@ -7,32 +7,23 @@ use Rattle.fields.proofs.Headers.{header-shows}
 use borrow.Author.Needs.{needs}
 use Rattle.feeding.proofs.feed_header.Statement.{statement}
 use Rattle.feeding.proofs.feed_header.Tie as tie
-use Rattle.feeding.proofs.feed_header.Reads as reads
-use Rattle.feeding.proofs.feed_header.Lts as lts
-use Rattle.fields.proofs.cutting.header_refusal.Reads as header-refusal-reads
-use Rattle.feeding.proofs.refused_at.Reads as refused-at-reads
 
--- src/lib.rt:112:9
 header-refusal-requires : tie.Need-header-refusal-requires
 header-refusal-requires c κs = search needs
 
--- src/lib.rt:114:9
 refused-at-requires : tie.Need-refused-at-requires
 refused-at-requires c κs = search needs
 
--- src/lib.rt:114:9
 returns : tie.Need-returns
 unfolding headerFed
 returns c = let e = c .before .before .header-refusal .ensures in rw (c .refused-at .ensures, e) (simp (ne-eqb _ _ (rw e at (c .before .if1 .taken))))
 
--- src/lib.rt:119:33
 shared-slice-read-t9 : tie.Need-shared-slice-read-t9
 shared-slice-read-t9 c =
     let o = c .before .before .before .before in
     let s = o .before .before in
     omega (arith, header-shows (s .args .kind) (s .args .bytes .now) (sym (o .header-refusal .ensures) ∙ c .before .before .before .if1 .left))
 
--- src/lib.rt:109:1
 returns-2 : tie.Need-returns-2
 unfolding headerFed
 returns-2 c = simp (eq-eqb _ _ (sym (c .before .before .before .before .header-refusal .ensures) ∙ c .before .before .before .if1 .left))

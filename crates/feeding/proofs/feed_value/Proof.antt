@@ -10,45 +10,30 @@ use Rattle.feeding.proofs.Values.{value-cut, value-from}
 use borrow.Author.Needs.{needs}
 use Rattle.feeding.proofs.feed_value.Statement.{statement}
 use Rattle.feeding.proofs.feed_value.Tie as tie
-use Rattle.feeding.proofs.feed_value.Reads as reads
-use Rattle.feeding.proofs.feed_value.Lts as lts
-use Rattle.fields.proofs.cutting.length_due.Reads as length-due-reads
-use Rattle.feeding.proofs.got_calendar.Reads as got-calendar-reads
-use Rattle.feeding.proofs.got_head.Reads as got-head-reads
-use Rattle.feeding.proofs.got_point.Reads as got-point-reads
-use Rattle.feeding.proofs.refused_at.Reads as refused-at-reads
 
--- src/lib.rt:178:9
 length-due-requires : tie.Need-length-due-requires
 length-due-requires c κs = search needs
 
--- src/lib.rt:180:9
 refused-at-requires : tie.Need-refused-at-requires
 refused-at-requires c κs = search needs
 
--- src/lib.rt:180:9
 returns : tie.Need-returns
 returns c =
     let d = c .before .before in
     c .refused-at .ensures ∙ sym (value-cut _ _ _ _ (rw (d .length-due .ensures .0) at (c .before .if1 .taken)))
 
--- src/lib.rt:183:41
 enum-told : tie.Need-enum-told
 enum-told c = search needs
 
--- src/lib.rt:183:41
 sub-got-head : tie.Need-sub-got-head
 sub-got-head c = search needs
 
--- src/lib.rt:183:41
 part-got-head-start : tie.Need-part-got-head-start
 part-got-head-start c = search needs
 
--- src/lib.rt:183:41
 part-got-head-end : tie.Need-part-got-head-end
 part-got-head-end c = search needs
 
--- src/lib.rt:183:22
 got-head-requires : tie.Need-got-head-requires
 got-head-requires c κs =
     let d = c .before .before .before .before in
@@ -57,47 +42,36 @@ got-head-requires c κs =
     let room : d .length-due .result ≤ length (s .args .bytes .now) = c .before .before .before .if1 .left in
     omega (arith, length-take (d .length-due .result - 0) (s .args .bytes .now))
 
--- src/lib.rt:184:49
 enum-told-2 : tie.Need-enum-told-2
 enum-told-2 c = search needs
 
--- src/lib.rt:184:49
 sub-got-calendar : tie.Need-sub-got-calendar
 sub-got-calendar c = search needs
 
--- src/lib.rt:184:49
 part-got-calendar-start : tie.Need-part-got-calendar-start
 part-got-calendar-start c = search needs
 
--- src/lib.rt:184:49
 part-got-calendar-end : tie.Need-part-got-calendar-end
 part-got-calendar-end c = search needs
 
--- src/lib.rt:184:26
 got-calendar-requires : tie.Need-got-calendar-requires
 got-calendar-requires c κs = search needs
 
--- src/lib.rt:185:48
 enum-told-3 : tie.Need-enum-told-3
 enum-told-3 c = search needs
 
--- src/lib.rt:185:48
 sub-got-point : tie.Need-sub-got-point
 sub-got-point c = search needs
 
--- src/lib.rt:185:48
 part-got-point-start : tie.Need-part-got-point-start
 part-got-point-start c = search needs
 
--- src/lib.rt:185:48
 part-got-point-end : tie.Need-part-got-point-end
 part-got-point-end c = search needs
 
--- src/lib.rt:185:23
 got-point-requires : tie.Need-got-point-requires
 got-point-requires c κs = search needs
 
--- src/lib.rt:175:1
 returns-2 : tie.Need-returns-2
 returns-2 c =
     let d = c .before .before .before .before .before in
@@ -108,7 +82,6 @@ returns-2 c =
     c .got-head .ensures ∙ ap (λ kind. got kind (s .args .tag) p (take (size - 0) bytes)) (sym (c .before .before .enum-told .given .1))
     ∙ value-from (s .args .kind) (s .args .tag) p bytes size (d .length-due .ensures .0) (c .before .before .before .before .if1 .left)
 
--- src/lib.rt:175:1
 returns-3 : tie.Need-returns-3
 returns-3 c =
     let d = c .before .before .before .before .before in
@@ -119,7 +92,6 @@ returns-3 c =
     c .got-calendar .ensures ∙ ap (λ kind. got kind (s .args .tag) p (take (size - 0) bytes)) (sym (c .before .before .enum-told2 .given .1))
     ∙ value-from (s .args .kind) (s .args .tag) p bytes size (d .length-due .ensures .0) (c .before .before .before .before .if1 .left)
 
--- src/lib.rt:175:1
 returns-4 : tie.Need-returns-4
 returns-4 c =
     let d = c .before .before .before .before .before in

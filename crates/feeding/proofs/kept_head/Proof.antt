@@ -7,8 +7,6 @@ use borrow.Author.Needs.{needs}
 use Rattle.numbers.proofs.Filling.{front, front-more, front-all}
 use Rattle.feeding.proofs.kept_head.Statement.{statement}
 use Rattle.feeding.proofs.kept_head.Tie as tie
-use Rattle.feeding.proofs.kept_head.Reads as reads
-use Rattle.feeding.proofs.kept_head.Lts as lts
 
 abbrev Inv-loop : tie.InvT-loop
 Inv-loop value head₀ i₀ head i = (i ≤ 17) × (length head₀ ≡ 17) × (length value ≡ 17) × (head ≡ front head₀ value i)
@@ -16,33 +14,26 @@ Inv-loop value head₀ i₀ head i = (i ≤ 17) × (length head₀ ≡ 17) × (l
 abbrev μ-loop : tie.MeasureT-loop
 μ-loop value head₀ i₀ head i = 17 - i
 
--- src/lib.rt:133:5
 loop-holds : tie.Need-loop-holds Inv-loop μ-loop
 loop-holds c = (search needs, refl, c .pre, refl)
 
--- src/lib.rt:134:19
 shared-slice-read-head : tie.Need-shared-slice-read-head Inv-loop μ-loop
 shared-slice-read-head c = omega arith
 
--- src/lib.rt:134:9
 array-write-head : tie.Need-array-write-head Inv-loop μ-loop
 array-write-head c = search needs
 
--- src/lib.rt:135:9
 add-i : tie.Need-add-i Inv-loop μ-loop
 add-i c = search needs
 
--- src/lib.rt:133:5
 loop-less : tie.Need-loop-less Inv-loop μ-loop
 loop-less c = search needs
 
--- src/lib.rt:133:5
 loop-again : tie.Need-loop-again Inv-loop μ-loop
 loop-again c =
     let l = c .before .before .loop in
     (omega arith, l .inv .1, l .inv .2, rw (l .inv .3) (front-more _ _ (l .i) 0 (omega arith) (omega arith)))
 
--- src/lib.rt:127:1
 returns : tie.Need-returns Inv-loop μ-loop
 returns c = let l = c .before .loop in l .inv .3 ∙ front-all _ _ (l .i) (omega arith) (omega arith)
 

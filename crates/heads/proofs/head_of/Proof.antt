@@ -2,52 +2,37 @@ use borrow.Author.Needs.{needs}
 use Rattle.heads.specs.Heads.{headOf}
 use Rattle.heads.proofs.head_of.Statement.{statement}
 use Rattle.heads.proofs.head_of.Tie as tie
-use Rattle.heads.proofs.head_of.Reads as reads
-use Rattle.heads.proofs.head_of.Lts as lts
-use Rattle.numbers.proofs.word16_at.Reads as word16-at-reads
-use Rattle.numbers.proofs.word32_at.Reads as word32-at-reads
 
--- src/heads.rt:18:9
 word16-at-requires : tie.Need-word16-at-requires
 word16-at-requires c κs = search needs
 
--- src/heads.rt:19:9
 word16-at-requires-2 : tie.Need-word16-at-requires-2
 word16-at-requires-2 c κs = search needs
 
--- src/heads.rt:20:9
 word16-at-requires-3 : tie.Need-word16-at-requires-3
 word16-at-requires-3 c κs = search needs
 
--- src/heads.rt:21:9
 word16-at-requires-4 : tie.Need-word16-at-requires-4
 word16-at-requires-4 c κs = search needs
 
--- src/heads.rt:22:9
 word32-at-requires : tie.Need-word32-at-requires
 word32-at-requires c κs = search needs
 
--- src/heads.rt:23:9
 word16-at-requires-5 : tie.Need-word16-at-requires-5
 word16-at-requires-5 c κs = search needs
 
--- src/heads.rt:26:16
 shared-slice-read-t9 : tie.Need-shared-slice-read-t9
 shared-slice-read-t9 c = search needs
 
--- src/heads.rt:27:14
 shared-slice-read-t11 : tie.Need-shared-slice-read-t11
 shared-slice-read-t11 c = search needs
 
--- src/heads.rt:28:15
 shared-slice-read-t13 : tie.Need-shared-slice-read-t13
 shared-slice-read-t13 c = search needs
 
--- src/heads.rt:31:16
 cast-t15 : tie.Need-cast-t15
 cast-t15 c = search needs
 
--- src/heads.rt:14:1
 returns : tie.Need-returns
 unfolding headOf
 returns c = cc (c .before .before .before .before .before .before .before .before .word16-at .ensures, c .before .before .before .before .before .before .before .word16-at2 .ensures, c .before .before .before .before .before .before .word16-at3 .ensures, c .before .before .before .before .before .word16-at4 .ensures, c .before .before .before .before .word32-at .ensures, c .before .before .before .word16-at5 .ensures)

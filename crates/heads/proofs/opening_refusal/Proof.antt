@@ -1,39 +1,28 @@
 -- The lengths, then the values.
-use mathlib.Core.Path.{_≡_, _∙_}
+use mathlib.Core.Path.{_∙_}
 use borrow.Author.Tests.{eq-eqb, ne-eqb}
 use Rattle.heads.specs.Heads.{contentRefusal, openingRefusal}
 use borrow.Author.Needs.{needs}
 use Rattle.heads.proofs.opening_refusal.Statement.{statement}
 use Rattle.heads.proofs.opening_refusal.Tie as tie
-use Rattle.heads.proofs.opening_refusal.Reads as reads
-use Rattle.heads.proofs.opening_refusal.Lts as lts
-use Rattle.heads.proofs.content_refusal.Reads as content-refusal-reads
-use Rattle.heads.proofs.head_of.Reads as head-of-reads
-use Rattle.heads.proofs.marks_of.Reads as marks-of-reads
 
--- src/heads.rt:128:9
 returns : tie.Need-returns
 unfolding openingRefusal contentRefusal
 returns c = simp (ne-eqb _ _ (c .if1 .taken))
 
--- src/heads.rt:131:9
 returns-2 : tie.Need-returns-2
 unfolding openingRefusal contentRefusal
 returns-2 c = simp (eq-eqb _ _ (c .before .if1 .left), ne-eqb _ _ (c .if2 .taken))
 
--- src/heads.rt:133:9
 marks-of-requires : tie.Need-marks-of-requires
 marks-of-requires c κs = search needs
 
--- src/heads.rt:134:21
 head-of-requires : tie.Need-head-of-requires
 head-of-requires c κs = search needs
 
--- src/heads.rt:134:5
 content-refusal-requires : tie.Need-content-refusal-requires
 content-refusal-requires c κs = search needs
 
--- src/heads.rt:124:1
 returns-3 : tie.Need-returns-3
 unfolding openingRefusal contentRefusal
 returns-3 c =

@@ -12,19 +12,10 @@ use Rattle.ledger.proofs.AddSteps.{found-few, found-all, early-told, da
 use borrow.Author.Needs.{needs}
 use Rattle.ledger.proofs.add.Statement.{statement}
 use Rattle.ledger.proofs.add.Tie as tie
-use Rattle.ledger.proofs.add.Reads as reads
-use Rattle.ledger.proofs.add.Lts as lts
-use Rattle.ledger.proofs.adding.early_refusal.Reads as early-refusal-reads
-use Rattle.points.proofs.number_of.Reads as number-of-reads
-use Rattle.ledger.proofs.totals.add_totals.Reads as add-totals-reads
-use Rattle.ledger.proofs.totals.put.Reads as put-reads
-use Rattle.results.proofs.results_of.Reads as results-of-reads
 
--- src/lib.rt:119:9
 early-refusal-requires : tie.Need-early-refusal-requires
 early-refusal-requires c κs = search needs
 
--- src/lib.rt:121:9
 returns : tie.Need-returns
 returns c =
     let s = c .before .before .before .args in
@@ -37,7 +28,6 @@ returns c =
       sym (places-bad (s .state) (s .tag) v (s .places .now) bad),
     )
 
--- src/lib.rt:125:9
 results-of-requires : tie.Need-results-of-requires
 results-of-requires c κs =
     let s = c .before .before .before .before .before .args in
@@ -47,7 +37,6 @@ results-of-requires c κs =
     let z = sym e ∙ c .before .before .if1 .left in
     (early-sound (s .state) (s .tag) v n z .content, early-known (s .state) (s .tag) v n z, early-length (s .state) (s .tag) v n z, early-fit (s .state) (s .tag) v n z, early-small (s .state) (s .tag) v n z)
 
--- src/lib.rt:128:9
 returns-2 : tie.Need-returns-2
 returns-2 c =
     let s = c .before .before .before .before .before .before .before .args in
@@ -62,7 +51,6 @@ returns-2 c =
       sym (places-bad (s .state) (s .tag) v (s .places .now) bad),
     )
 
--- src/lib.rt:134:5
 put-requires : tie.Need-put-requires
 put-requires c κs =
     let s = c .before .before .before .before .before .before .before .before .before .args in
@@ -72,7 +60,6 @@ put-requires c κs =
     let z = sym e ∙ c .before .before .before .before .before .before .if1 .left in
     early-six (s .state) (s .tag) v n z
 
--- src/lib.rt:136:9
 add-totals-requires : tie.Need-add-totals-requires
 add-totals-requires c κs =
     let s = c .before .before .before .before .before .before .before .before .before .before .before .before .args in
@@ -85,7 +72,6 @@ add-totals-requires c κs =
     let y = days-passed (s .state) (s .tag) v n z (f .0) in
     λ i. rw r (sums-fit (s .state) (s .tag) v n z y i)
 
--- src/lib.rt:137:9
 number-of-requires : tie.Need-number-of-requires
 number-of-requires c κs =
     let s = c .before .before .before .before .before .before .before .before .before .before .before .before .before .args in
@@ -95,7 +81,6 @@ number-of-requires c κs =
     let z = sym e ∙ c .before .before .before .before .before .before .before .before .before .before .if1 .left in
     numbered (s .state) (s .tag) v n z
 
--- src/lib.rt:139:19
 add-next : tie.Need-add-next
 add-next c =
     let s = c .before .before .before .before .before .before .before .before .before .before .before .before .before .before .before .args in
@@ -105,11 +90,9 @@ add-next c =
     let z = sym e ∙ c .before .before .before .before .before .before .before .before .before .before .before .before .if1 .left in
     record { fits = next-fits (s .state) (s .tag) v n z }
 
--- src/lib.rt:116:1
 same-length : tie.Need-same-length
 same-length c = search needs
 
--- src/lib.rt:116:1
 returns-3 : tie.Need-returns-3
 unfolding taken
 returns-3 c =

@@ -1,5 +1,5 @@
 -- An unsound state, too few points, and the figures.
-use mathlib.Core.Path.{_≡_, sym, _∙_}
+use mathlib.Core.Path.{sym, _∙_}
 use borrow.Author.Tests.{lt-ltb, le-ltb}
 use Rattle.ledger.specs.Operations.{closingRefusal, closeOf}
 use Rattle.ledger.proofs.Sound.{sound}
@@ -7,39 +7,27 @@ use Rattle.ledger.proofs.TotalBounds.{total-small}
 use borrow.Author.Needs.{needs}
 use Rattle.ledger.proofs.close.Statement.{statement}
 use Rattle.ledger.proofs.close.Tie as tie
-use Rattle.ledger.proofs.close.Reads as reads
-use Rattle.ledger.proofs.close.Lts as lts
-use Rattle.ledger.proofs.closing.figures_of.Reads as figures-of-reads
-use Rattle.ledger.proofs.closing.no_figures.Reads as no-figures-reads
-use Rattle.ledger.proofs.states.is_unsound.Reads as is-unsound-reads
 
--- src/lib.rt:89:8
 is-unsound-requires : tie.Need-is-unsound-requires
 is-unsound-requires c κs = search needs
 
--- src/lib.rt:90:13
 no-figures-requires : tie.Need-no-figures-requires
 no-figures-requires c κs = search needs
 
--- src/lib.rt:91:9
 returns : tie.Need-returns
 unfolding closingRefusal closeOf
 returns c = rw (c .no-figures .ensures) (simp (sym (c .before .before .is-unsound .ensures) ∙ c .before .if1 .taken))
 
--- src/lib.rt:99:13
 no-figures-requires-2 : tie.Need-no-figures-requires-2
 no-figures-requires-2 c κs = search needs
 
--- src/lib.rt:100:9
 returns-2 : tie.Need-returns-2
 unfolding closingRefusal closeOf
 returns-2 c = rw (c .no-figures2 .ensures) (simp (sym (c .before .before .before .before .before .is-unsound .ensures) ∙ c .before .before .before .before .if1 .left, lt-ltb _ _ (c .before .if2 .taken)))
 
--- src/lib.rt:106:9
 figures-of-requires : tie.Need-figures-of-requires
 figures-of-requires c κs = total-small (c .before .before .before .before .before .before .args .state) (sound (c .before .before .before .before .before .before .args .state) (sym (c .before .before .before .before .before .is-unsound .ensures) ∙ c .before .before .before .before .if1 .left))
 
--- src/lib.rt:86:1
 returns-3 : tie.Need-returns-3
 unfolding closingRefusal closeOf
 returns-3 c = rw (c .figures-of .ensures) (simp (sym (c .before .before .before .before .before .before .is-unsound .ensures) ∙ c .before .before .before .before .before .if1 .left, le-ltb _ _ (c .before .before .if2 .left)))

@@ -1,45 +1,31 @@
 -- A refused opening gives the state of zeros, an accepted one the state that its bytes say.
-use mathlib.Core.Path.{_≡_, sym, _∙_}
+use mathlib.Core.Path.{sym, _∙_}
 use Rattle.heads.proofs.Opening.{opening-lengths}
 use Rattle.ledger.proofs.Sound.{open-good, open-bad}
 use borrow.Author.Needs.{needs}
 use Rattle.ledger.proofs.open.Statement.{statement}
 use Rattle.ledger.proofs.open.Tie as tie
-use Rattle.ledger.proofs.open.Reads as reads
-use Rattle.ledger.proofs.open.Lts as lts
-use Rattle.heads.proofs.head_of.Reads as head-of-reads
-use Rattle.heads.proofs.marks_of.Reads as marks-of-reads
-use Rattle.heads.proofs.opening_refusal.Reads as opening-refusal-reads
-use Rattle.ledger.proofs.states.no_state.Reads as no-state-reads
-use Rattle.ledger.proofs.states.opened_state.Reads as opened-state-reads
 
--- src/lib.rt:72:9
 opening-refusal-requires : tie.Need-opening-refusal-requires
 opening-refusal-requires c κs = search needs
 
--- src/lib.rt:74:13
 no-state-requires : tie.Need-no-state-requires
 no-state-requires c κs = search needs
 
--- src/lib.rt:75:9
 returns : tie.Need-returns
 returns c =
     let e = c .before .before .opening-refusal .ensures in
     rw (c .no-state .ensures, e) (sym (open-bad (c .before .before .before .before .before .args .head .now) (c .before .before .before .before .before .args .calendar .now) (rw e at (c .before .if1 .taken))))
 
--- src/lib.rt:77:9
 marks-of-requires : tie.Need-marks-of-requires
 marks-of-requires c κs = opening-lengths (c .before .before .before .before .args .head .now) (c .before .before .before .before .args .calendar .now) (sym (c .before .opening-refusal .ensures) ∙ c .if1 .left) .1
 
--- src/lib.rt:78:38
 head-of-requires : tie.Need-head-of-requires
 head-of-requires c κs = opening-lengths (c .before .before .before .before .before .args .head .now) (c .before .before .before .before .before .args .calendar .now) (sym (c .before .before .opening-refusal .ensures) ∙ c .before .if1 .left) .0
 
--- src/lib.rt:78:9
 opened-state-requires : tie.Need-opened-state-requires
 opened-state-requires c κs = search needs
 
--- src/lib.rt:69:1
 returns-2 : tie.Need-returns-2
 returns-2 c =
     rw (c .opened-state .ensures, c .before .head-of .ensures, c .before .before .marks-of .ensures)

@@ -1,32 +1,23 @@
 -- The tag, then the length.
-use mathlib.Core.Path.{_≡_, sym, _∙_}
+use mathlib.Core.Path.{sym, _∙_}
 use borrow.Author.Tests.{eq-eqb, ne-eqb}
 use borrow.Author.Needs.{needs}
 use Rattle.points.proofs.form_refusal.Statement.{statement}
 use Rattle.points.proofs.form_refusal.Tie as tie
-use Rattle.points.proofs.form_refusal.Reads as reads
-use Rattle.points.proofs.form_refusal.Lts as lts
-use Rattle.points.proofs.is_unknown_tag.Reads as is-unknown-tag-reads
-use Rattle.points.proofs.value_length.Reads as value-length-reads
 
--- src/adding.rt:18:9
 is-unknown-tag-requires : tie.Need-is-unknown-tag-requires
 is-unknown-tag-requires c κs = search needs
 
--- src/adding.rt:19:9
 returns : tie.Need-returns
 returns c = simp (sym (c .before .is-unknown-tag .ensures) ∙ c .if1 .taken)
 
--- src/adding.rt:21:18
 value-length-requires : tie.Need-value-length-requires
 value-length-requires c κs = search needs
 
--- src/adding.rt:22:9
 returns-2 : tie.Need-returns-2
 returns-2 c =
     simp (sym (c .before .before .before .is-unknown-tag .ensures) ∙ c .before .before .if1 .left, ne-eqb _ _ (rw (c .before .value-length .ensures) at (c .if2 .taken)))
 
--- src/adding.rt:15:1
 returns-3 : tie.Need-returns-3
 returns-3 c =
     simp (sym (c .before .before .before .is-unknown-tag .ensures) ∙ c .before .before .if1 .left, eq-eqb _ _ (rw (c .before .value-length .ensures) at (c .if2 .left)))

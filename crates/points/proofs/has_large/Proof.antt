@@ -1,5 +1,4 @@
 -- The readings are the value behind its head.
-use mathlib.Core.Path.{_≡_, refl}
 use native.Mathlib.Omega.{arith}
 use lib.ListN.{length-take, length-drop}
 use borrow.Author.Tests.{eq-eqb, ne-eqb}
@@ -8,51 +7,37 @@ use Rattle.readings.specs.Readings.{firstLarge}
 use borrow.Author.Needs.{needs}
 use Rattle.points.proofs.has_large.Statement.{statement}
 use Rattle.points.proofs.has_large.Tie as tie
-use Rattle.points.proofs.has_large.Reads as reads
-use Rattle.points.proofs.has_large.Lts as lts
-use Rattle.readings.proofs.first_large.Reads as first-large-reads
 
--- src/points.rt:78:53
 sub-first-large : tie.Need-sub-first-large
 sub-first-large c = let s = c .before .before in let e = simp (eq-eqb (s .args .tag) 3 (omega arith)) at (s .pre) in omega arith
 
--- src/points.rt:78:53
 part-first-large-start : tie.Need-part-first-large-start
 part-first-large-start c = let s = c .before .before in let e = simp (eq-eqb (s .args .tag) 3 (omega arith)) at (s .pre) in omega arith
 
--- src/points.rt:78:53
 part-first-large-end : tie.Need-part-first-large-end
 part-first-large-end c = search needs
 
--- src/points.rt:78:21
 first-large-requires : tie.Need-first-large-requires
 first-large-requires c κs = let s = c .before .before .before in let e = simp (eq-eqb (s .args .tag) 3 (omega arith)) at (s .pre) in simp (length-take, length-drop) (omega arith)
 
--- src/points.rt:79:54
 sub-first-large-2 : tie.Need-sub-first-large-2
 sub-first-large-2 c = let s = c .before .before in let e = simp (ne-eqb (s .args .tag) 3 (omega arith), eq-eqb (s .args .tag) 4 (omega arith)) at (s .pre) in omega arith
 
--- src/points.rt:79:54
 part-first-large-start-2 : tie.Need-part-first-large-start-2
 part-first-large-start-2 c = let s = c .before .before in let e = simp (ne-eqb (s .args .tag) 3 (omega arith), eq-eqb (s .args .tag) 4 (omega arith)) at (s .pre) in omega arith
 
--- src/points.rt:79:54
 part-first-large-end-2 : tie.Need-part-first-large-end-2
 part-first-large-end-2 c = search needs
 
--- src/points.rt:79:22
 first-large-requires-2 : tie.Need-first-large-requires-2
 first-large-requires-2 c κs = let s = c .before .before .before in let e = simp (ne-eqb (s .args .tag) 3 (omega arith), eq-eqb (s .args .tag) 4 (omega arith)) at (s .pre) in simp (length-take, length-drop) (omega arith)
 
--- src/points.rt:73:1
 returns : tie.Need-returns
 returns c = let s = c .before .before .before .before in rw (c .first-large .ensures, rest-of (s .args .value .now) 23) (simp (eq-eqb (s .args .tag) 3 (omega arith)))
 
--- src/points.rt:73:1
 returns-2 : tie.Need-returns-2
 returns-2 c = let s = c .before .before .before .before in rw (c .first-large2 .ensures, rest-of (s .args .value .now) 26) (simp (ne-eqb (s .args .tag) 3 (omega arith), eq-eqb (s .args .tag) 4 (omega arith)))
 
--- src/points.rt:73:1
 returns-3 : tie.Need-returns-3
 unfolding firstLarge
 returns-3 c = let s = c .before .before in simp (ne-eqb (s .args .tag) 3 (omega arith), ne-eqb (s .args .tag) 4 (omega arith))

@@ -1,35 +1,24 @@
-use mathlib.Core.Path.{_≡_, refl, ap}
 use native.Mathlib.Omega.{arith}
 use borrow.Author.Tests.{eq-eqb, ne-eqb}
 use borrow.Author.Needs.{needs}
 use Rattle.points.proofs.is_unfit.Statement.{statement}
 use Rattle.points.proofs.is_unfit.Tie as tie
-use Rattle.points.proofs.is_unfit.Reads as reads
-use Rattle.points.proofs.is_unfit.Lts as lts
-use Rattle.points.proofs.is_class.Reads as is-class-reads
-use Rattle.numbers.proofs.word32_at.Reads as word32-at-reads
 
--- src/points.rt:63:31
 shared-slice-read-is-class : tie.Need-shared-slice-read-is-class
 shared-slice-read-is-class c = let s = c .before .before .before in let e = simp (eq-eqb (s .args .tag) 3 (omega arith)) at (s .pre) in omega arith
 
--- src/points.rt:63:22
 is-class-requires : tie.Need-is-class-requires
 is-class-requires c κs = search needs
 
--- src/points.rt:64:38
 word32-at-requires : tie.Need-word32-at-requires
 word32-at-requires c κs = let s = c .before .before in let e = simp (ne-eqb (s .args .tag) 3 (omega arith), eq-eqb (s .args .tag) 4 (omega arith)) at (s .pre) in omega arith
 
--- src/points.rt:58:1
 returns : tie.Need-returns
 returns c = let s = c .before .before .before .before in rw (c .is-class .ensures) (simp (eq-eqb (s .args .tag) 3 (omega arith)))
 
--- src/points.rt:58:1
 returns-2 : tie.Need-returns-2
 returns-2 c = let s = c .before .before .before in rw (c .word32-at .ensures) (simp (ne-eqb (s .args .tag) 3 (omega arith), eq-eqb (s .args .tag) 4 (omega arith)))
 
--- src/points.rt:58:1
 returns-3 : tie.Need-returns-3
 returns-3 c = let s = c .before .before in simp (ne-eqb (s .args .tag) 3 (omega arith), ne-eqb (s .args .tag) 4 (omega arith))
 

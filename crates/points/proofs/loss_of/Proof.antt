@@ -5,30 +5,22 @@ use lib.ListN.{getD}
 use borrow.Author.Needs.{needs}
 use Rattle.points.proofs.loss_of.Statement.{statement}
 use Rattle.points.proofs.loss_of.Tie as tie
-use Rattle.points.proofs.loss_of.Reads as reads
-use Rattle.points.proofs.loss_of.Lts as lts
 
--- src/points.rt:51:14
 array-read-result : tie.Need-array-read-result
 array-read-result c = search needs
 
--- src/points.rt:52:14
 array-read-result-2 : tie.Need-array-read-result-2
 array-read-result-2 c = search needs
 
--- src/points.rt:53:14
 array-read-result-3 : tie.Need-array-read-result-3
 array-read-result-3 c = search needs
 
--- src/points.rt:46:1
 returns : tie.Need-returns
 returns c = let e : 0 ≡ c .before .args .class - 1 = omega arith in ap (λ (i : ℕ). getD (c .before .args .t1) i 0) e
 
--- src/points.rt:46:1
 returns-2 : tie.Need-returns-2
 returns-2 c = let e : 1 ≡ c .before .args .class - 1 = omega arith in ap (λ (i : ℕ). getD (c .before .args .t1) i 0) e
 
--- src/points.rt:46:1
 returns-3 : tie.Need-returns-3
 returns-3 c = let e : 2 ≡ c .before .args .class - 1 = omega arith in ap (λ (i : ℕ). getD (c .before .args .t1) i 0) e
 

@@ -1,5 +1,4 @@
 -- `six_from` meets its contract. Assumes nothing.
-use mathlib.Core.Path.{sym, _∙_}
 use Prim.Native.Nat.{_*_}
 use borrow.Author.Needs.{needs}
 use Rattle.numbers.specs.Words.{word32}

@@ -1,5 +1,5 @@
 -- Too few days, or the results on the chosen ones.
-use mathlib.Core.Path.{_≡_, sym}
+use mathlib.Core.Path.{sym}
 use native.Mathlib.Omega.{arith}
 use lib.Dec.{leb, leb→le}
 use lib.ListN.{length-take, length-drop}
@@ -12,34 +12,22 @@ use Rattle.results.proofs.ConsumerDays.{date-is, too-few, enough-days, 
 use borrow.Author.Needs.{needs}
 use Rattle.results.proofs.consumer_found.Statement.{statement}
 use Rattle.results.proofs.consumer_found.Tie as tie
-use Rattle.results.proofs.consumer_found.Reads as reads
-use Rattle.results.proofs.consumer_found.Lts as lts
-use Rattle.baseline.proofs.chosen_days.Reads as chosen-days-reads
-use Rattle.calendar.proofs.day_count.Reads as day-count-reads
-use Rattle.points.proofs.loss_of.Reads as loss-of-reads
-use Rattle.results.proofs.consumer_results.Reads as consumer-results-reads
 
--- src/results.rt:85:9
 day-count-requires : tie.Need-day-count-requires
 day-count-requires c κs = let s = c .before in date-is (s .args .head) (s .args .marks) (s .pre .0)
 
--- src/results.rt:86:16
 cast-slot : tie.Need-cast-slot
 cast-slot c = search needs
 
--- src/results.rt:87:53
 sub-chosen-days : tie.Need-sub-chosen-days
 sub-chosen-days c = search needs
 
--- src/results.rt:87:53
 part-chosen-days-start : tie.Need-part-chosen-days-start
 part-chosen-days-start c = search needs
 
--- src/results.rt:87:53
 part-chosen-days-end : tie.Need-part-chosen-days-end
 part-chosen-days-end c = search needs
 
--- src/results.rt:87:9
 chosen-days-requires : tie.Need-chosen-days-requires
 chosen-days-requires c κs =
     let s = c .before .before .before .before in
@@ -51,18 +39,15 @@ chosen-days-requires c κs =
       rw (rest-of v 23) (all-tested consumer v (s .pre .3)),
     )
 
--- src/results.rt:90:9
 returns : tie.Need-returns
 returns c =
     let s = c .before .before .before .before .before .before in
     sym (too-few (s .args .head) (s .args .marks) (s .args .value .now) _ _ (c .before .before .before .before .day-count .ensures .0) (c .before .chosen-days .ensures .0)
     (not-true _ (c .if1 .taken)))
 
--- src/results.rt:97:40
 shared-slice-read-loss-of : tie.Need-shared-slice-read-loss-of
 shared-slice-read-loss-of c = search needs
 
--- src/results.rt:97:9
 loss-of-requires : tie.Need-loss-of-requires
 loss-of-requires c κs =
     let s = c .before .before .before .before .before .before .before .before .before in
@@ -70,19 +55,15 @@ loss-of-requires c κs =
     let t = both (leb 1 k) (leb k 3) (s .pre .2) in
     (leb→le 1 k (t .0), leb→le k 3 (t .1))
 
--- src/results.rt:98:40
 sub-consumer-results : tie.Need-sub-consumer-results
 sub-consumer-results c = search needs
 
--- src/results.rt:98:40
 part-consumer-results-start : tie.Need-part-consumer-results-start
 part-consumer-results-start c = search needs
 
--- src/results.rt:98:40
 part-consumer-results-end : tie.Need-part-consumer-results-end
 part-consumer-results-end c = search needs
 
--- src/results.rt:98:9
 consumer-results-requires : tie.Need-consumer-results-requires
 consumer-results-requires c κs =
     let s = c .before .before .before .before .before .before .before .before .before .before .before in
@@ -96,7 +77,6 @@ consumer-results-requires c κs =
       rw (rest-of v 23) (all-tested consumer v (s .pre .3)),
     )
 
--- src/results.rt:78:1
 returns-2 : tie.Need-returns-2
 returns-2 c =
     let s = c .before .before .before .before .before .before .before .before .before .before .before .before in

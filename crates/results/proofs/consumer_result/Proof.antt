@@ -1,4 +1,4 @@
-use mathlib.Core.Path.{_≡_, ap, _∙_}
+use mathlib.Core.Path.{ap, _∙_}
 use Prim.Native.Nat.{_*_, _-_}
 use lib.IntN.{ℤ}
 use Rattle.numbers.specs.Integers.{floorDiv}
@@ -7,36 +7,25 @@ use mir.Facts.{toZ-ofZ}
 use borrow.Author.Needs.{needs, sfits-of}
 use Rattle.results.proofs.consumer_result.Statement.{statement}
 use Rattle.results.proofs.consumer_result.Tie as tie
-use Rattle.results.proofs.consumer_result.Reads as reads
-use Rattle.results.proofs.consumer_result.Lts as lts
-use Rattle.numbers.proofs.floor_div.Reads as floor-div-reads
-use Rattle.numbers.proofs.minus.Reads as minus-reads
 
--- src/results.rt:17:32
 mul-minus : tie.Need-mul-minus
 mul-minus c = search needs
 
--- src/results.rt:17:46
 mul-minus-2 : tie.Need-mul-minus-2
 mul-minus-2 c = search needs
 
--- src/results.rt:17:9
 minus-requires : tie.Need-minus-requires
 minus-requires c κs = search needs
 
--- src/results.rt:18:37
 sub-floor-div : tie.Need-sub-floor-div
 sub-floor-div c = search needs
 
--- src/results.rt:18:31
 mul-floor-div : tie.Need-mul-floor-div
 mul-floor-div c = search needs
 
--- src/results.rt:18:5
 floor-div-requires : tie.Need-floor-div-requires
 floor-div-requires c κs = search needs
 
--- src/results.rt:13:1
 returns : tie.Need-returns
 returns c =
     toZ-ofZ (sfits-of (c .floor-div .ok))

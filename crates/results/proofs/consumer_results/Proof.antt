@@ -16,13 +16,6 @@ use Rattle.readings.proofs.Bounds.{reading-bound, earlier-use-bound, day-sums-b
 use Rattle.points.specs.Points.{consumerQuotient, rounded}
 use Rattle.results.proofs.consumer_results.Statement.{statement}
 use Rattle.results.proofs.consumer_results.Tie as tie
-use Rattle.results.proofs.consumer_results.Reads as reads
-use Rattle.results.proofs.consumer_results.Lts as lts
-use Rattle.baseline.proofs.baseline_of.Reads as baseline-of-reads
-use Rattle.readings.proofs.day_sums.Reads as day-sums-reads
-use Rattle.readings.proofs.earlier_use.Reads as earlier-use-reads
-use Rattle.results.proofs.consumer_result.Reads as consumer-result-reads
-use Rattle.numbers.proofs.word32_at.Reads as word32-at-reads
 
 -- slot j, of sums and earlier use that are worked out
 abbrev slotAt : ℕ → List ℕ → ℕ → List (List ℕ) → ℕ → ℕ → ℤ
@@ -34,19 +27,15 @@ Inv-loop loss readings slot sums earlier found₀ j₀ found j = (j ≤ 6) × (l
 abbrev μ-loop : tie.MeasureT-loop
 μ-loop loss readings slot sums earlier found₀ j₀ found j = 6 - j
 
--- src/results.rt:48:9
 day-sums-requires : tie.Need-day-sums-requires Inv-loop μ-loop
 day-sums-requires c κs = search needs
 
--- src/results.rt:49:9
 earlier-use-requires : tie.Need-earlier-use-requires Inv-loop μ-loop
 earlier-use-requires c κs = search needs
 
--- src/results.rt:52:5
 loop-holds : tie.Need-loop-holds Inv-loop μ-loop
 loop-holds c = (search needs, refl, refl)
 
--- src/results.rt:53:13
 baseline-of-requires : tie.Need-baseline-of-requires Inv-loop μ-loop
 baseline-of-requires c κs =
     let s = c .before .before .before .before .before in
@@ -56,19 +45,15 @@ baseline-of-requires c κs =
       rw (c .before .before .earlier-use .ensures) (earlier-use-bound (s .args .readings .now) (s .pre .5) (s .args .slot) (s .pre .4)),
     )
 
--- src/results.rt:54:50
 add-word32-at : tie.Need-add-word32-at Inv-loop μ-loop
 add-word32-at c = search needs
 
--- src/results.rt:54:49
 mul-word32-at : tie.Need-mul-word32-at Inv-loop μ-loop
 mul-word32-at c = search needs
 
--- src/results.rt:54:13
 word32-at-requires : tie.Need-word32-at-requires Inv-loop μ-loop
 word32-at-requires c κs = search needs
 
--- src/results.rt:55:20
 consumer-result-requires : tie.Need-consumer-result-requires Inv-loop μ-loop
 consumer-result-requires c κs =
     let s = c .before .before .before .before .before .before .before in (
@@ -77,23 +62,18 @@ consumer-result-requires c κs =
       rw (c .word32-at .ensures) (simp zero-add at (reading-bound (s .args .readings .now) (s .pre .5) 0 (s .args .slot + c .before .before .before .loop .j) (omega arith) (omega arith))),
     )
 
--- src/results.rt:55:9
 mul-found : tie.Need-mul-found Inv-loop μ-loop
 mul-found c = search needs
 
--- src/results.rt:55:9
 array-set-from-found : tie.Need-array-set-from-found Inv-loop μ-loop
 array-set-from-found c = search needs
 
--- src/results.rt:56:9
 add-j : tie.Need-add-j Inv-loop μ-loop
 add-j c = search needs
 
--- src/results.rt:52:5
 loop-less : tie.Need-loop-less Inv-loop μ-loop
 loop-less c = search needs
 
--- src/results.rt:52:5
 loop-again : tie.Need-loop-again Inv-loop μ-loop
 loop-again c =
     let s = c .before .before .before .before .before .before .before .before in
@@ -103,7 +83,6 @@ loop-again c =
     c .consumer-result .ensures ∙ rw (c .before .before .baseline-of .ensures .0, c .before .word32-at .ensures) (simp zero-add) in
     (omega arith, l .inv .1, rw (toZ-ofZ (sfits-of (c .consumer-result .ok)), l .inv .2) (fill-more _ f 0 6 (l .inv .1) (l .j) (pos 0) _ (omega arith) e))
 
--- src/results.rt:44:1
 returns : tie.Need-returns Inv-loop μ-loop
 returns c =
     let l = c .before .loop in

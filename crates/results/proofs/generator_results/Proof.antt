@@ -13,10 +13,6 @@ use Rattle.points.specs.Points.{baselineOf}
 use Rattle.results.proofs.SlotResults.{generatorAt, generator-results}
 use Rattle.results.proofs.generator_results.Statement.{statement}
 use Rattle.results.proofs.generator_results.Tie as tie
-use Rattle.results.proofs.generator_results.Reads as reads
-use Rattle.results.proofs.generator_results.Lts as lts
-use Rattle.results.proofs.generator_result.Reads as generator-result-reads
-use Rattle.numbers.proofs.word32_at.Reads as word32-at-reads
 
 abbrev Inv-loop : tie.InvT-loop
 Inv-loop value baseline found₀ j₀ found j = (j ≤ 6) × (length found₀ ≡ 6) × (baseline ≡ baselineOf value) × (found ≡ front found₀ (run (generatorAt value) 0 6) j)
@@ -24,47 +20,36 @@ Inv-loop value baseline found₀ j₀ found j = (j ≤ 6) × (length found₀ �
 abbrev μ-loop : tie.MeasureT-loop
 μ-loop value baseline found₀ j₀ found j = 6 - j
 
--- src/results.rt:34:9
 word32-at-requires : tie.Need-word32-at-requires Inv-loop μ-loop
 word32-at-requires c κs = search needs
 
--- src/results.rt:37:5
 loop-holds : tie.Need-loop-holds Inv-loop μ-loop
 loop-holds c = (search needs, refl, c .word32-at .ensures, refl)
 
--- src/results.rt:38:54
 mul-word32-at : tie.Need-mul-word32-at Inv-loop μ-loop
 mul-word32-at c = search needs
 
--- src/results.rt:38:49
 add-word32-at : tie.Need-add-word32-at Inv-loop μ-loop
 add-word32-at c = search needs
 
--- src/results.rt:38:13
 word32-at-requires-2 : tie.Need-word32-at-requires-2 Inv-loop μ-loop
 word32-at-requires-2 c κs = search needs
 
--- src/results.rt:39:20
 generator-result-requires : tie.Need-generator-result-requires Inv-loop μ-loop
 generator-result-requires c κs = search needs
 
--- src/results.rt:39:9
 mul-found : tie.Need-mul-found Inv-loop μ-loop
 mul-found c = search needs
 
--- src/results.rt:39:9
 array-set-from-found : tie.Need-array-set-from-found Inv-loop μ-loop
 array-set-from-found c = search needs
 
--- src/results.rt:40:9
 add-j : tie.Need-add-j Inv-loop μ-loop
 add-j c = search needs
 
--- src/results.rt:37:5
 loop-less : tie.Need-loop-less Inv-loop μ-loop
 loop-less c = search needs
 
--- src/results.rt:37:5
 loop-again : tie.Need-loop-again Inv-loop μ-loop
 loop-again c =
     let l = c .before .before .before .loop in
@@ -73,7 +58,6 @@ loop-again c =
     c .generator-result .ensures ∙ rw (c .before .word32-at2 .ensures, l .inv .2, zero-add) refl in
     (omega arith, l .inv .1, l .inv .2, rw (toZ-ofZ (sfits-of (c .generator-result .ok)), l .inv .3) (fill-more _ (generatorAt v) 0 6 (l .inv .1) (l .j) (pos 0) _ (omega arith) e))
 
--- src/results.rt:30:1
 returns : tie.Need-returns Inv-loop μ-loop
 returns c =
     let l = c .before .loop in

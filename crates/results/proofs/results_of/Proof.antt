@@ -7,33 +7,25 @@ use Rattle.results.specs.Steps.{foundOf}
 use Rattle.results.proofs.ConsumerDays.{generator-kind}
 use Rattle.results.proofs.results_of.Statement.{statement}
 use Rattle.results.proofs.results_of.Tie as tie
-use Rattle.results.proofs.results_of.Reads as reads
-use Rattle.results.proofs.results_of.Lts as lts
-use Rattle.results.proofs.consumer_found.Reads as consumer-found-reads
-use Rattle.results.proofs.generator_results.Reads as generator-results-reads
 
--- src/results.rt:111:9
 consumer-found-requires : tie.Need-consumer-found-requires
 consumer-found-requires c κs =
     let s = c .before .before in
     let k = eq-eqb (s .args .tag) 3 (omega arith) in
     (s .pre .0, simp k at (s .pre .2), simp k at (s .pre .3), simp k at (s .pre .4))
 
--- src/results.rt:111:9
 returns : tie.Need-returns
 returns c =
     let s = c .before .before .before in
     let k : kindOf (s .args .tag) ≡ consumer = simp (eq-eqb (s .args .tag) 3 (omega arith)) in
     c .consumer-found .ensures ∙ ap (λ (kind : Kind). foundOf (s .args .head) (s .args .marks) kind (s .args .value .now)) (sym k)
 
--- src/results.rt:113:9
 generator-results-requires : tie.Need-generator-results-requires
 generator-results-requires c κs =
     let s = c .before .before in
     let k = generator-kind (s .args .tag) (c .if1 .left) (s .pre .1) in
     (s .pre .2 ∙ ap sizeOf k, ltb-false _ _ (ap (λ (kind : Kind). isUnfit kind (s .args .value .now)) (sym k) ∙ s .pre .3))
 
--- src/results.rt:106:1
 returns-2 : tie.Need-returns-2
 unfolding foundOf
 returns-2 c =

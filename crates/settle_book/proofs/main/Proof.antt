@@ -1,18 +1,8 @@
 use mathlib.Core.Path.{_≡_}
-use native.Mathlib.Omega.{arith}
 use lib.ListN.{length}
 use borrow.Author.Needs.{needs}
 use Rattle.settle_book.proofs.main.Statement.{statement}
 use Rattle.settle_book.proofs.main.Tie as tie
-use Rattle.settle_book.proofs.main.Reads as reads
-use Rattle.settle_book.proofs.main.Lts as lts
-use Rattle.feeding.proofs.due.Reads as due-reads
-use Rattle.feeding.proofs.feed.Reads as feed-reads
-use Rattle.feeding.proofs.is_over.Reads as is-over-reads
-use Rattle.feeding.proofs.start.Reads as start-reads
-use Rattle.io.proofs.write_all.Reads as write-all-reads
-use Rattle.settle_book.proofs.read_bytes.Reads as read-bytes-reads
-use Rattle.settle_book.proofs.report.Reads as report-reads
 
 abbrev Inv-loop : tie.InvT-loop
 Inv-loop buffer₀ progress₀ turns₀ t7 buffer progress turns = length buffer ≡ 5975
@@ -20,83 +10,63 @@ Inv-loop buffer₀ progress₀ turns₀ t7 buffer progress turns = length buffer
 abbrev μ-loop : tie.MeasureT-loop
 μ-loop buffer₀ progress₀ turns₀ t7 buffer progress turns = turns
 
--- src/main.rt:150:9
 start-requires : tie.Need-start-requires Inv-loop μ-loop
 start-requires c κs = search needs
 
--- src/main.rt:152:5
 loop-holds : tie.Need-loop-holds Inv-loop μ-loop
 loop-holds c = search needs
 
--- src/main.rt:153:9
 sub-turns : tie.Need-sub-turns Inv-loop μ-loop
 sub-turns c = search needs
 
--- src/main.rt:154:13
 due-requires : tie.Need-due-requires Inv-loop μ-loop
 due-requires c κs = search needs
 
--- src/main.rt:155:30
 slice-aggregate-read-bytes : tie.Need-slice-aggregate-read-bytes Inv-loop μ-loop
 slice-aggregate-read-bytes c = search needs
 
--- src/main.rt:155:13
 read-bytes-requires : tie.Need-read-bytes-requires Inv-loop μ-loop
 read-bytes-requires c κs = search needs
 
--- src/main.rt:159:17
 slice-aggregate-write-all : tie.Need-slice-aggregate-write-all Inv-loop μ-loop
 slice-aggregate-write-all c = search needs
 
--- src/main.rt:157:13
 write-all-requires : tie.Need-write-all-requires Inv-loop μ-loop
 write-all-requires c κs = search needs
 
--- src/main.rt:161:13
 returns : tie.Need-returns Inv-loop μ-loop
 returns c = search needs
 
--- src/main.rt:164:44
 sub-feed : tie.Need-sub-feed Inv-loop μ-loop
 sub-feed c = search needs
 
--- src/main.rt:164:44
 part-feed-start : tie.Need-part-feed-start Inv-loop μ-loop
 part-feed-start c = search needs
 
--- src/main.rt:164:44
 part-feed-end : tie.Need-part-feed-end Inv-loop μ-loop
 part-feed-end c = search needs
 
--- src/main.rt:164:9
 feed-requires : tie.Need-feed-requires Inv-loop μ-loop
 feed-requires c κs = search needs
 
--- src/main.rt:165:12
 is-over-requires : tie.Need-is-over-requires Inv-loop μ-loop
 is-over-requires c κs = search needs
 
--- src/main.rt:152:5
 loop-less : tie.Need-loop-less Inv-loop μ-loop
 loop-less c = search needs
 
--- src/main.rt:152:5
 loop-again : tie.Need-loop-again Inv-loop μ-loop
 loop-again c = search needs
 
--- src/main.rt:152:5
 loop-less-2 : tie.Need-loop-less-2 Inv-loop μ-loop
 loop-less-2 c = search needs
 
--- src/main.rt:152:5
 loop-again-2 : tie.Need-loop-again-2 Inv-loop μ-loop
 loop-again-2 c = search needs
 
--- src/main.rt:169:5
 report-requires : tie.Need-report-requires Inv-loop μ-loop
 report-requires c κs = search needs
 
--- src/main.rt:148:1
 returns-2 : tie.Need-returns-2 Inv-loop μ-loop
 returns-2 c = search needs
 

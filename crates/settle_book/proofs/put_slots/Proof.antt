@@ -2,11 +2,6 @@ use Prim.Native.Nat.{_≤_, _-_}
 use borrow.Author.Needs.{needs}
 use Rattle.settle_book.proofs.put_slots.Statement.{statement}
 use Rattle.settle_book.proofs.put_slots.Tie as tie
-use Rattle.settle_book.proofs.put_slots.Reads as reads
-use Rattle.settle_book.proofs.put_slots.Lts as lts
-use Rattle.settle_book.proofs.put.Reads as put-reads
-use Rattle.settle_book.proofs.put_line.Reads as put-line-reads
-use Rattle.settle_book.proofs.put_number.Reads as put-number-reads
 
 abbrev Inv-loop : tie.InvT-loop
 Inv-loop ok totals good₀ i₀ t7 t8 good i = i ≤ 6
@@ -14,55 +9,42 @@ Inv-loop ok totals good₀ i₀ t7 t8 good i = i ≤ 6
 abbrev μ-loop : tie.MeasureT-loop
 μ-loop ok totals good₀ i₀ t7 t8 good i = 6 - i
 
--- src/main.rt:101:5
 loop-holds : tie.Need-loop-holds Inv-loop μ-loop
 loop-holds c = search needs
 
--- src/main.rt:102:45
 slice-aggregate-put : tie.Need-slice-aggregate-put Inv-loop μ-loop
 slice-aggregate-put c = search needs
 
--- src/main.rt:102:35
 put-requires : tie.Need-put-requires Inv-loop μ-loop
 put-requires c κs = search needs
 
--- src/main.rt:102:57
 add-put-number : tie.Need-add-put-number Inv-loop μ-loop
 add-put-number c = search needs
 
--- src/main.rt:102:13
 put-number-requires : tie.Need-put-number-requires Inv-loop μ-loop
 put-number-requires c κs = search needs
 
--- src/main.rt:103:35
 slice-aggregate-put-line : tie.Need-slice-aggregate-put-line Inv-loop μ-loop
 slice-aggregate-put-line c = search needs
 
--- src/main.rt:103:41
 mul-put-line : tie.Need-mul-put-line Inv-loop μ-loop
 mul-put-line c = search needs
 
--- src/main.rt:103:41
 array-copy-out-put-line : tie.Need-array-copy-out-put-line Inv-loop μ-loop
 array-copy-out-put-line c = search needs
 
--- src/main.rt:103:9
 put-line-requires : tie.Need-put-line-requires Inv-loop μ-loop
 put-line-requires c κs = search needs
 
--- src/main.rt:104:9
 add-i : tie.Need-add-i Inv-loop μ-loop
 add-i c = search needs
 
--- src/main.rt:101:5
 loop-less : tie.Need-loop-less Inv-loop μ-loop
 loop-less c = search needs
 
--- src/main.rt:101:5
 loop-again : tie.Need-loop-again Inv-loop μ-loop
 loop-again c = search needs
 
--- src/main.rt:98:1
 returns : tie.Need-returns Inv-loop μ-loop
 returns c = search needs
 

@@ -1,14 +1,10 @@
 -- Yes is 1.
 use Rattle.book.proofs.settling.one_or_zero.Statement.{statement}
 use Rattle.book.proofs.settling.one_or_zero.Tie as tie
-use Rattle.book.proofs.settling.one_or_zero.Reads as reads
-use Rattle.book.proofs.settling.one_or_zero.Lts as lts
 
--- src/settling.rt:22:1
 returns : tie.Need-returns
 returns c = rw (c .if1 .taken)
 
--- src/settling.rt:22:1
 returns-2 : tie.Need-returns-2
 returns-2 c = rw (c .if1 .left)
 

@@ -2,16 +2,13 @@
 use mathlib.Core.Path.{_≡_, refl, ap, _∙_}
 use Prim.Native.Nat.{_≤_, _-_}
 use native.Mathlib.Omega.{arith}
-use lib.ListN.{length, getD, set}
+use lib.ListN.{length}
 use borrow.Author.Needs.{needs}
 use Rattle.numbers.proofs.Filling.{front, front-more, front-all, front-length}
 use Rattle.book.specs.Results.{wordBytes}
 use Rattle.book.proofs.Results.{words-length}
 use Rattle.book.proofs.settling.put_words.Statement.{statement}
 use Rattle.book.proofs.settling.put_words.Tie as tie
-use Rattle.book.proofs.settling.put_words.Reads as reads
-use Rattle.book.proofs.settling.put_words.Lts as lts
-use Rattle.book.proofs.settling.result_byte.Reads as result-byte-reads
 
 abbrev Inv-loop : tie.InvT-loop
 Inv-loop words result₀ i₀ result i = (i ≤ 64) × (length result₀ ≡ 64) × (length (wordBytes words) ≡ 64) × (result ≡ front result₀ (wordBytes words) i)
@@ -19,40 +16,32 @@ Inv-loop words result₀ i₀ result i = (i ≤ 64) × (length result₀ ≡ 64)
 abbrev μ-loop : tie.MeasureT-loop
 μ-loop words result₀ i₀ result i = 64 - i
 
--- src/settling.rt:66:5
 loop-holds : tie.Need-loop-holds Inv-loop μ-loop
 loop-holds c =
     let n : length (c .before .args .words) ≡ 8 = search needs in
     (search needs, c .before .pre, words-length (c .before .args .words) ∙ omega arith, refl)
 
--- src/settling.rt:67:21
 result-byte-requires : tie.Need-result-byte-requires Inv-loop μ-loop
 result-byte-requires c κs = search needs
 
--- src/settling.rt:67:9
 slice-write-result : tie.Need-slice-write-result Inv-loop μ-loop
 slice-write-result c = let l = c .before .before .loop in omega (arith, ap length (l .inv .3) ∙ front-length _ _ (l .i) (omega arith) (omega arith))
 
--- src/settling.rt:68:9
 add-i : tie.Need-add-i Inv-loop μ-loop
 add-i c = search needs
 
--- src/settling.rt:66:5
 loop-less : tie.Need-loop-less Inv-loop μ-loop
 loop-less c = search needs
 
--- src/settling.rt:66:5
 loop-again : tie.Need-loop-again Inv-loop μ-loop
 loop-again c =
     let l = c .before .before .loop in
     let words = c .before .before .before .before .args .words in
     (omega arith, l .inv .1, l .inv .2, rw (l .inv .3, c .result-byte .ensures) (front-more _ (wordBytes words) (l .i) 0 (omega arith) (omega arith)))
 
--- src/settling.rt:61:1
 same-length : tie.Need-same-length Inv-loop μ-loop
 same-length c = let l = c .before .loop in ap length (l .inv .3) ∙ front-length _ _ (l .i) (omega arith) (omega arith)
 
--- src/settling.rt:61:1
 returns : tie.Need-returns Inv-loop μ-loop
 returns c = let l = c .before .loop in l .inv .3 ∙ front-all _ _ (l .i) (omega arith) (omega arith)
 

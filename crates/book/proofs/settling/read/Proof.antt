@@ -11,42 +11,28 @@ use Rattle.book.proofs.Endings.{cut-here, cut-end, no-head, no-calendar
 use borrow.Author.Needs.{needs}
 use Rattle.book.proofs.settling.read.Statement.{statement}
 use Rattle.book.proofs.settling.read.Tie as tie
-use Rattle.book.proofs.settling.read.Reads as reads
-use Rattle.book.proofs.settling.read.Lts as lts
-use Rattle.fields.proofs.cutting.cut.Reads as cut-reads
-use Rattle.fields.proofs.cutting.refusal_of.Reads as refusal-of-reads
-use Rattle.book.proofs.settling.read_points.Reads as read-points-reads
-use Rattle.book.proofs.settling.refused.Reads as refused-reads
-use Rattle.ledger.proofs.open.Reads as open-reads
 
--- src/settling.rt:67:9
 cut-requires : tie.Need-cut-requires
 cut-requires c κs = search needs
 
--- src/settling.rt:68:25
 enum-known-head : tie.Need-enum-known-head
 enum-known-head c = search needs
 
--- src/settling.rt:69:24
 enum-told : tie.Need-enum-told
 enum-told c = search needs
 
--- src/settling.rt:69:24
 refusal-of-requires : tie.Need-refusal-of-requires
 refusal-of-requires c κs = search needs
 
--- src/settling.rt:69:9
 refused-requires : tie.Need-refused-requires
 refused-requires c κs = search needs
 
--- src/settling.rt:69:9
 returns : tie.Need-returns
 returns c =
     let told = c .before .before .enum-told .given .1 in
     c .refused .ensures ∙ ap refusedWith (c .before .refusal-of .ensures ∙ ap refusalOf told)
     ∙ sym (no-head _ _ (sym (c .before .before .before .before .cut .ensures) ∙ told))
 
--- src/settling.rt:71:20
 add-head-end : tie.Need-add-head-end
 add-head-end c =
     let k = c in
@@ -56,7 +42,6 @@ add-head-end c =
     let within = cut-within Head book (h .0 .0) (h .0 .1 .0) e in
     omega arith
 
--- src/settling.rt:72:47
 sub-cut : tie.Need-sub-cut
 sub-cut c =
     let k = c in
@@ -66,7 +51,6 @@ sub-cut c =
     let within = cut-within Head book (h .0 .0) (h .0 .1 .0) e in
     omega arith
 
--- src/settling.rt:72:47
 part-cut-start : tie.Need-part-cut-start
 part-cut-start c =
     let k = c in
@@ -76,31 +60,24 @@ part-cut-start c =
     let within = cut-within Head book (h .0 .0) (h .0 .1 .0) e in
     omega arith
 
--- src/settling.rt:72:47
 part-cut-end : tie.Need-part-cut-end
 part-cut-end c = search needs
 
--- src/settling.rt:72:9
 cut-requires-2 : tie.Need-cut-requires-2
 cut-requires-2 c κs = search needs
 
--- src/settling.rt:73:25
 enum-known-calendar : tie.Need-enum-known-calendar
 enum-known-calendar c = search needs
 
--- src/settling.rt:74:24
 enum-told-2 : tie.Need-enum-told-2
 enum-told-2 c = search needs
 
--- src/settling.rt:74:24
 refusal-of-requires-2 : tie.Need-refusal-of-requires-2
 refusal-of-requires-2 c κs = search needs
 
--- src/settling.rt:74:9
 refused-requires-2 : tie.Need-refused-requires-2
 refused-requires-2 c κs = search needs
 
--- src/settling.rt:74:9
 returns-2 : tie.Need-returns-2
 returns-2 c =
     let k = c .before .before .before .before .before .before in
@@ -112,7 +89,6 @@ returns-2 c =
     let f = cut-here Calendar book (3 + h .0 .1 .0) _ (c .before .before .before .before .cut2 .ensures) _ told in
     c .refused2 .ensures ∙ ap refusedWith (c .before .refusal-of2 .ensures ∙ ap refusalOf told) ∙ sym (no-calendar book (h .0 .0) (h .0 .1 .0) e _ f)
 
--- src/settling.rt:76:16
 add-from : tie.Need-add-from
 add-from c =
     let q = c in
@@ -125,7 +101,6 @@ add-from c =
     let end = cut-end Calendar book (3 + h .0 .1 .0) _ (q .before .before .before .cut2 .ensures) within (g .0 .0) (g .0 .1 .0) (g .1) in
     omega arith
 
--- src/settling.rt:77:15
 add-end : tie.Need-add-end
 add-end c =
     let q = c in
@@ -138,15 +113,12 @@ add-end c =
     let end = cut-end Calendar book (3 + h .0 .1 .0) _ (q .before .before .before .cut2 .ensures) within (g .0 .0) (g .0 .1 .0) (g .1) in
     omega arith
 
--- src/settling.rt:78:31
 sub-open : tie.Need-sub-open
 sub-open c = search needs
 
--- src/settling.rt:78:31
 part-open-start : tie.Need-part-open-start
 part-open-start c = search needs
 
--- src/settling.rt:78:31
 part-open-end : tie.Need-part-open-end
 part-open-end c =
     let q = c in
@@ -159,15 +131,12 @@ part-open-end c =
     let end = cut-end Calendar book (3 + h .0 .1 .0) _ (q .before .before .before .cut2 .ensures) within (g .0 .0) (g .0 .1 .0) (g .1) in
     omega arith
 
--- src/settling.rt:78:51
 sub-open-2 : tie.Need-sub-open-2
 sub-open-2 c = search needs
 
--- src/settling.rt:78:51
 part-open-start-2 : tie.Need-part-open-start-2
 part-open-start-2 c = search needs
 
--- src/settling.rt:78:51
 part-open-end-2 : tie.Need-part-open-end-2
 part-open-end-2 c =
     let q = c .before in
@@ -180,15 +149,12 @@ part-open-end-2 c =
     let end = cut-end Calendar book (3 + h .0 .1 .0) _ (q .before .before .before .cut2 .ensures) within (g .0 .0) (g .0 .1 .0) (g .1) in
     omega arith
 
--- src/settling.rt:78:9
 open-requires : tie.Need-open-requires
 open-requires c κs = search needs
 
--- src/settling.rt:81:9
 refused-requires-3 : tie.Need-refused-requires-3
 refused-requires-3 c κs = search needs
 
--- src/settling.rt:81:9
 returns-3 : tie.Need-returns-3
 returns-3 c =
     let q = c .before .before .before .before .before .before in
@@ -204,7 +170,6 @@ returns-3 c =
     c .refused3 .ensures ∙ ap refusedWith (ap (λ y. y .refusal) a)
     ∙ sym (not-opened-here book (h .0 .0) (h .0 .1 .0) e (g .0 .0) (g .0 .1 .0) f (rw a at (c .before .if1 .taken)))
 
--- src/settling.rt:84:5
 read-points-requires : tie.Need-read-points-requires
 read-points-requires c κs =
     let q = c .before .before .before .before .before .before in
@@ -217,7 +182,6 @@ read-points-requires c κs =
     let end = cut-end Calendar book (3 + h .0 .1 .0) _ (q .before .before .before .cut2 .ensures) within (g .0 .0) (g .0 .1 .0) (g .1) in
     omega arith
 
--- src/settling.rt:64:1
 returns-4 : tie.Need-returns-4
 returns-4 c =
     let q = c .before .before .before .before .before .before .before in

@@ -12,12 +12,6 @@ use Rattle.fields.specs.declared.Field.the-variants.{Value}
 use Rattle.book.proofs.Endings.{cut-here, cut-end, not-cut, stopped, went-on, bytes-behind, all-read}
 use Rattle.book.proofs.settling.read_points.Statement.{statement}
 use Rattle.book.proofs.settling.read_points.Tie as tie
-use Rattle.book.proofs.settling.read_points.Reads as reads
-use Rattle.book.proofs.settling.read_points.Lts as lts
-use Rattle.fields.proofs.cutting.cut.Reads as cut-reads
-use Rattle.fields.proofs.cutting.refusal_of.Reads as refusal-of-reads
-use Rattle.book.proofs.settling.refused.Reads as refused-reads
-use Rattle.ledger.proofs.add.Reads as add-reads
 
 abbrev Inv-loop : tie.InvT-loop
 Inv-loop book start due₀ state₀ at₀ due state at =
@@ -26,43 +20,33 @@ Inv-loop book start due₀ state₀ at₀ due state at =
 abbrev μ-loop : tie.MeasureT-loop
 μ-loop book start due₀ state₀ at₀ due state at = due
 
--- src/settling.rt:37:5
 loop-holds : tie.Need-loop-holds Inv-loop μ-loop
 loop-holds c = (search needs, refl)
 
--- src/settling.rt:38:45
 sub-cut : tie.Need-sub-cut Inv-loop μ-loop
 sub-cut c = search needs
 
--- src/settling.rt:38:45
 part-cut-start : tie.Need-part-cut-start Inv-loop μ-loop
 part-cut-start c = search needs
 
--- src/settling.rt:38:45
 part-cut-end : tie.Need-part-cut-end Inv-loop μ-loop
 part-cut-end c = search needs
 
--- src/settling.rt:38:13
 cut-requires : tie.Need-cut-requires Inv-loop μ-loop
 cut-requires c κs = search needs
 
--- src/settling.rt:39:26
 enum-known-field : tie.Need-enum-known-field Inv-loop μ-loop
 enum-known-field c = search needs
 
--- src/settling.rt:40:28
 enum-told : tie.Need-enum-told Inv-loop μ-loop
 enum-told c = search needs
 
--- src/settling.rt:40:28
 refusal-of-requires : tie.Need-refusal-of-requires Inv-loop μ-loop
 refusal-of-requires c κs = search needs
 
--- src/settling.rt:40:13
 refused-requires : tie.Need-refused-requires Inv-loop μ-loop
 refused-requires c κs = search needs
 
--- src/settling.rt:40:13
 returns : tie.Need-returns Inv-loop μ-loop
 returns c =
     let l = c .before .before .before .before .before .before .before .loop in
@@ -72,7 +56,6 @@ returns c =
     c .refused .ensures ∙ ap refusedWith (c .before .refusal-of .ensures ∙ ap refusalOf told)
     ∙ sym (l .inv .1 ∙ not-cut (l .due) (l .state) book (l .at) (c .before .before .before .before .before .before .loop-test .taken) _ e)
 
--- src/settling.rt:42:20
 add-from : tie.Need-add-from Inv-loop μ-loop
 add-from c =
     let l = c .before .before .before .before .before .before .loop in
@@ -80,7 +63,6 @@ add-from c =
     let f = c .before .field .given in
     omega (arith, cut-end Point book (l .at) _ (c .before .before .before .cut .ensures) (l .inv .0) (f .0 .0) (f .0 .1 .0) (f .1))
 
--- src/settling.rt:43:19
 add-end : tie.Need-add-end Inv-loop μ-loop
 add-end c =
     let l = c .before .before .before .before .before .before .loop in
@@ -88,15 +70,12 @@ add-end c =
     let f = c .before .field .given in
     omega (arith, cut-end Point book (l .at) _ (c .before .before .before .cut .ensures) (l .inv .0) (f .0 .0) (f .0 .1 .0) (f .1))
 
--- src/settling.rt:45:45
 sub-add : tie.Need-sub-add Inv-loop μ-loop
 sub-add c = search needs
 
--- src/settling.rt:45:45
 part-add-start : tie.Need-part-add-start Inv-loop μ-loop
 part-add-start c = search needs
 
--- src/settling.rt:45:45
 part-add-end : tie.Need-part-add-end Inv-loop μ-loop
 part-add-end c =
     let l = c .before .before .before .before .before .before .loop in
@@ -104,19 +83,15 @@ part-add-end c =
     let f = c .before .field .given in
     omega (arith, cut-end Point book (l .at) _ (c .before .before .before .cut .ensures) (l .inv .0) (f .0 .0) (f .0 .1 .0) (f .1))
 
--- src/settling.rt:45:63
 slice-aggregate-add : tie.Need-slice-aggregate-add Inv-loop μ-loop
 slice-aggregate-add c = search needs
 
--- src/settling.rt:45:13
 add-requires : tie.Need-add-requires Inv-loop μ-loop
 add-requires c κs = search needs
 
--- src/settling.rt:48:13
 refused-requires-2 : tie.Need-refused-requires-2 Inv-loop μ-loop
 refused-requires-2 c κs = search needs
 
--- src/settling.rt:48:13
 returns-2 : tie.Need-returns-2 Inv-loop μ-loop
 returns-2 c =
     let k = c .before .before .before .before .before .before .before in
@@ -128,15 +103,12 @@ returns-2 c =
     c .refused2 .ensures ∙ ap refusedWith (ap (λ y. y .refusal) a)
     ∙ sym (l .inv .1 ∙ stopped (l .due) (l .state) book (l .at) (k .before .before .before .before .before .loop-test .taken) (f .0 .0) (f .0 .1 .0) e (rw a at (c .before .if1 .taken)))
 
--- src/settling.rt:52:9
 sub-due : tie.Need-sub-due Inv-loop μ-loop
 sub-due c = search needs
 
--- src/settling.rt:37:5
 loop-less : tie.Need-loop-less Inv-loop μ-loop
 loop-less c = search needs
 
--- src/settling.rt:37:5
 loop-again : tie.Need-loop-again Inv-loop μ-loop
 loop-again c =
     let k = c .before .before .before .before .before .before .before in
@@ -150,17 +122,14 @@ loop-again c =
           ∙ rw a refl,
     )
 
--- src/settling.rt:55:9
 refused-requires-3 : tie.Need-refused-requires-3 Inv-loop μ-loop
 refused-requires-3 c κs = search needs
 
--- src/settling.rt:55:9
 returns-3 : tie.Need-returns-3 Inv-loop μ-loop
 returns-3 c =
     let l = c .before .before .before .loop in
     c .refused3 .ensures ∙ sym (l .inv .1 ∙ bytes-behind (l .due) (l .state) _ (l .at) (c .before .before .loop-test .left) (l .inv .0) (c .before .if2 .taken))
 
--- src/settling.rt:29:1
 returns-4 : tie.Need-returns-4 Inv-loop μ-loop
 returns-4 c =
     let l = c .before .before .loop in

@@ -1,4 +1,4 @@
-use mathlib.Core.Path.{_≡_, sym, ap, _∙_}
+use mathlib.Core.Path.{sym, ap, _∙_}
 use Prim.Native.Nat.{_/_, _%_}
 use native.Mathlib.Omega.{arith}
 use lib.IntN.{ℤ, pos}
@@ -9,27 +9,19 @@ use Rattle.book.proofs.Results.{word-back, words-at}
 use borrow.Author.Needs.{needs}
 use Rattle.book.proofs.settling.result_byte.Statement.{statement}
 use Rattle.book.proofs.settling.result_byte.Tie as tie
-use Rattle.book.proofs.settling.result_byte.Reads as reads
-use Rattle.book.proofs.settling.result_byte.Lts as lts
-use Rattle.numbers.proofs.word_bytes.Reads as word-bytes-reads
 
--- src/settling.rt:56:37
 mul-word-bytes : tie.Need-mul-word-bytes
 mul-word-bytes c = search needs
 
--- src/settling.rt:56:37
 array-copy-out-word-bytes : tie.Need-array-copy-out-word-bytes
 array-copy-out-word-bytes c = search needs
 
--- src/settling.rt:56:17
 word-bytes-requires : tie.Need-word-bytes-requires
 word-bytes-requires c κs = search needs
 
--- src/settling.rt:57:5
 array-read-result : tie.Need-array-read-result
 array-read-result c = search needs
 
--- src/settling.rt:52:1
 returns : tie.Need-returns
 returns c =
     let s = c .before .before in

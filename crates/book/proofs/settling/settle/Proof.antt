@@ -11,30 +11,19 @@ use Rattle.book.proofs.Results.{closed-small}
 use borrow.Author.Needs.{needs}
 use Rattle.book.proofs.settling.settle.Statement.{statement}
 use Rattle.book.proofs.settling.settle.Tie as tie
-use Rattle.book.proofs.settling.settle.Reads as reads
-use Rattle.book.proofs.settling.settle.Lts as lts
-use Rattle.book.proofs.settling.put_words.Reads as put-words-reads
-use Rattle.book.proofs.settling.read.Reads as read-reads
-use Rattle.book.proofs.settling.words_of.Reads as words-of-reads
-use Rattle.ledger.proofs.close.Reads as close-reads
 
--- src/settling.rt:150:9
 returns : tie.Need-returns
 returns c = no-room _ _ (c .if1 .taken)
 
--- src/settling.rt:152:9
 read-requires : tie.Need-read-requires
 read-requires c κs = search needs
 
--- src/settling.rt:155:9
 returns-2 : tie.Need-returns-2
 returns-2 c = let a = c .before .read .ensures in rw a (not-read _ _ (c .before .before .if1 .left) (rw a at (c .if2 .taken)))
 
--- src/settling.rt:159:9
 close-requires : tie.Need-close-requires
 close-requires c κs = search needs
 
--- src/settling.rt:161:9
 words-of-requires : tie.Need-words-of-requires
 words-of-requires c κs =
     let r = c .before .before .before .before in
@@ -47,15 +36,12 @@ words-of-requires c κs =
     let total : mag (c .before .close .result .figures .total) < 2 ^ 63 = search needs in
     rw k (closed-small (r .read .result .state) accepted contract (rw k at total))
 
--- src/settling.rt:162:5
 put-words-requires : tie.Need-put-words-requires
 put-words-requires c κs = search needs
 
--- src/settling.rt:146:1
 same-length : tie.Need-same-length
 same-length c = search needs
 
--- src/settling.rt:146:1
 returns-3 : tie.Need-returns-3
 returns-3 c =
     let r = c .before .before .before .before .before .before .before .before .before in

@@ -4,14 +4,10 @@ use mir.Facts.{toZ-pos}
 use borrow.Author.Needs.{needs}
 use Rattle.book.proofs.settling.signed.Statement.{statement}
 use Rattle.book.proofs.settling.signed.Tie as tie
-use Rattle.book.proofs.settling.signed.Reads as reads
-use Rattle.book.proofs.settling.signed.Lts as lts
 
--- src/settling.rt:19:5
 cast-result : tie.Need-cast-result
 cast-result c = search needs
 
--- src/settling.rt:15:1
 returns : tie.Need-returns
 returns c = toZ-pos w64 (c .pre)
 

@@ -3,40 +3,28 @@ use Rattle.book.proofs.Results.{word-back}
 use borrow.Author.Needs.{needs}
 use Rattle.book.proofs.settling.words_of.Statement.{statement}
 use Rattle.book.proofs.settling.words_of.Tie as tie
-use Rattle.book.proofs.settling.words_of.Reads as reads
-use Rattle.book.proofs.settling.words_of.Lts as lts
-use Rattle.book.proofs.settling.one_or_zero.Reads as one-or-zero-reads
-use Rattle.book.proofs.settling.signed.Reads as signed-reads
 
--- src/settling.rt:33:9
 signed-requires : tie.Need-signed-requires
 signed-requires c κs = search needs
 
--- src/settling.rt:34:9
 signed-requires-2 : tie.Need-signed-requires-2
 signed-requires-2 c κs = search needs
 
--- src/settling.rt:35:9
 signed-requires-3 : tie.Need-signed-requires-3
 signed-requires-3 c κs = search needs
 
--- src/settling.rt:36:9
 signed-requires-4 : tie.Need-signed-requires-4
 signed-requires-4 c κs = search needs
 
--- src/settling.rt:37:25
 cast-signed : tie.Need-cast-signed
 cast-signed c = search needs
 
--- src/settling.rt:37:9
 signed-requires-5 : tie.Need-signed-requires-5
 signed-requires-5 c κs = search needs
 
--- src/settling.rt:38:9
 one-or-zero-requires : tie.Need-one-or-zero-requires
 one-or-zero-requires c κs = search needs
 
--- src/settling.rt:29:1
 returns : tie.Need-returns
 returns c =
     let s = c .before .before .before .before .before .before .before .before in

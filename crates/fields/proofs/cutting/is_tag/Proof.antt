@@ -4,35 +4,25 @@ use mathlib.Core.Bool.{not}
 use borrow.Author.Needs.{needs}
 use Rattle.fields.proofs.cutting.is_tag.Statement.{statement}
 use Rattle.fields.proofs.cutting.is_tag.Tie as tie
-use Rattle.fields.proofs.cutting.is_tag.Reads as reads
-use Rattle.fields.proofs.cutting.is_tag.Lts as lts
-use Rattle.points.proofs.is_unknown_tag.Reads as is-unknown-tag-reads
 
--- src/fields.rt:27:22
 enum-told : tie.Need-enum-told
 enum-told c = search needs
 
--- src/fields.rt:28:26
 enum-told-2 : tie.Need-enum-told-2
 enum-told-2 c = search needs
 
--- src/fields.rt:29:24
 enum-told-3 : tie.Need-enum-told-3
 enum-told-3 c = search needs
 
--- src/fields.rt:29:24
 is-unknown-tag-requires : tie.Need-is-unknown-tag-requires
 is-unknown-tag-requires c κs = search needs
 
--- src/fields.rt:23:1
 returns : tie.Need-returns
 returns c = rw (c .enum-told .given .1)
 
--- src/fields.rt:23:1
 returns-2 : tie.Need-returns-2
 returns-2 c = rw (c .enum-told2 .given .1)
 
--- src/fields.rt:23:1
 returns-3 : tie.Need-returns-3
 returns-3 c = rw (c .before .enum-told3 .given .1) (ap not (c .is-unknown-tag .ensures))
 

@@ -4,34 +4,25 @@ use Rattle.fields.proofs.Headers.{some-bytes}
 use borrow.Author.Needs.{needs}
 use Rattle.fields.proofs.cutting.short_refusal.Statement.{statement}
 use Rattle.fields.proofs.cutting.short_refusal.Tie as tie
-use Rattle.fields.proofs.cutting.short_refusal.Reads as reads
-use Rattle.fields.proofs.cutting.short_refusal.Lts as lts
 
--- src/fields.rt:49:9
 returns : tie.Need-returns
 returns c = let s = c .before in simp (some-bytes (s .args .due) (s .args .length) (c .if1 .taken))
 
--- src/fields.rt:52:22
 enum-told : tie.Need-enum-told
 enum-told c = search needs
 
--- src/fields.rt:53:26
 enum-told-2 : tie.Need-enum-told-2
 enum-told-2 c = search needs
 
--- src/fields.rt:54:23
 enum-told-3 : tie.Need-enum-told-3
 enum-told-3 c = search needs
 
--- src/fields.rt:45:1
 returns-2 : tie.Need-returns-2
 returns-2 c = search needs
 
--- src/fields.rt:45:1
 returns-3 : tie.Need-returns-3
 returns-3 c = search needs
 
--- src/fields.rt:45:1
 returns-4 : tie.Need-returns-4
 returns-4 c = rw (c .enum-told3 .given .1) (simp (eq-eqb _ _ (c .before .before .if1 .left)))
 

@@ -1,5 +1,5 @@
 -- Row by row.
-use mathlib.Core.Path.{_≡_, sym, ap, _∙_}
+use mathlib.Core.Path.{sym, ap, _∙_}
 use mathlib.Core.Bool.{not}
 use native.Mathlib.Omega.{arith}
 use borrow.Author.Tests.{not-true, not-false}
@@ -8,40 +8,28 @@ use Rattle.fields.proofs.WritingRows.{form-told, number-told, number-pa
 use borrow.Author.Needs.{needs}
 use Rattle.fields.proofs.writing.point_refusal.Statement.{statement}
 use Rattle.fields.proofs.writing.point_refusal.Tie as tie
-use Rattle.fields.proofs.writing.point_refusal.Reads as reads
-use Rattle.fields.proofs.writing.point_refusal.Lts as lts
-use Rattle.points.proofs.form_refusal.Reads as form-refusal-reads
-use Rattle.points.proofs.value_refusal.Reads as value-refusal-reads
-use Rattle.numbers.proofs.is_number.Reads as is-number-reads
 
--- src/writing.rt:47:9
 form-refusal-requires : tie.Need-form-refusal-requires
 form-refusal-requires c κs = search needs
 
--- src/writing.rt:49:9
 returns : tie.Need-returns
 returns c = let e = c .before .form-refusal .ensures in rw e (sym (form-told _ _ (rw e at (c .if1 .taken))))
 
--- src/writing.rt:51:28
 sub-is-number : tie.Need-sub-is-number
 sub-is-number c = search needs
 
--- src/writing.rt:51:28
 part-is-number-start : tie.Need-part-is-number-start
 part-is-number-start c = search needs
 
--- src/writing.rt:51:28
 part-is-number-end : tie.Need-part-is-number-end
 part-is-number-end c =
     let s = c .before .before .before in
     let e = sym (c .before .form-refusal .ensures) ∙ c .if1 .left in
     omega (arith, long-enough (s .args .tag) (s .args .value .now) e)
 
--- src/writing.rt:51:9
 is-number-requires : tie.Need-is-number-requires
 is-number-requires c κs = search needs
 
--- src/writing.rt:52:9
 returns-2 : tie.Need-returns-2
 returns-2 c =
     let f = c .before .before .before in
@@ -49,14 +37,12 @@ returns-2 c =
     let n = ap not (sym (c .before .is-number .ensures)) ∙ c .if2 .taken in
     sym (number-told _ _ e (not-true _ n))
 
--- src/writing.rt:54:5
 value-refusal-requires : tie.Need-value-refusal-requires
 value-refusal-requires c κs =
     let f = c .before .before .before in
     let s = f .before .before .before in
     right-length (s .args .tag) (s .args .value .now) (sym (f .before .form-refusal .ensures) ∙ f .if1 .left)
 
--- src/writing.rt:44:1
 returns-3 : tie.Need-returns-3
 returns-3 c =
     let f = c .before .before .before .before in

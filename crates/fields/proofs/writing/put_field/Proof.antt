@@ -1,6 +1,6 @@
 -- The header is stored, then the value behind it, byte by byte.
 use mathlib.Core.Path.{_≡_, refl, sym, ap, _∙_}
-use Prim.Native.Nat.{_≤_, _<_, _+_, _-_}
+use Prim.Native.Nat.{_≤_, _+_, _-_}
 use native.Mathlib.Numerals.{add-one}
 use native.Mathlib.Omega.{arith}
 use lib.ListN.{length, getD, set}
@@ -9,9 +9,6 @@ use borrow.Author.Needs.{needs}
 use Rattle.fields.proofs.Storing.{headed, headed-length, headed-value}
 use Rattle.fields.proofs.writing.put_field.Statement.{statement}
 use Rattle.fields.proofs.writing.put_field.Tie as tie
-use Rattle.fields.proofs.writing.put_field.Reads as reads
-use Rattle.fields.proofs.writing.put_field.Lts as lts
-use Rattle.numbers.proofs.length_bytes.Reads as length-bytes-reads
 
 abbrev Inv-loop : tie.InvT-loop
 Inv-loop tag value out₀ size i₀ out i = (i ≤ size) × (size ≡ length value) × (3 + size ≤ length out₀) × (out ≡ paste out₀ 3 value i)
@@ -19,52 +16,41 @@ Inv-loop tag value out₀ size i₀ out i = (i ≤ size) × (size ≡ length val
 abbrev μ-loop : tie.MeasureT-loop
 μ-loop tag value out₀ size i₀ out i = size - i
 
--- src/writing.rt:18:40
 cast-length-bytes : tie.Need-cast-length-bytes Inv-loop μ-loop
 cast-length-bytes c = search needs
 
--- src/writing.rt:18:18
 length-bytes-requires : tie.Need-length-bytes-requires Inv-loop μ-loop
 length-bytes-requires c κs = search needs
 
--- src/writing.rt:19:5
 slice-write-out : tie.Need-slice-write-out Inv-loop μ-loop
 slice-write-out c = search needs
 
--- src/writing.rt:20:14
 array-read-out : tie.Need-array-read-out Inv-loop μ-loop
 array-read-out c = search needs
 
--- src/writing.rt:20:5
 slice-write-out-2 : tie.Need-slice-write-out-2 Inv-loop μ-loop
 slice-write-out-2 c = lt-length-set (c .before .before .before .args .out .now) 0 (c .before .before .before .args .tag) (omega arith)
 
--- src/writing.rt:21:14
 array-read-out-2 : tie.Need-array-read-out-2 Inv-loop μ-loop
 array-read-out-2 c = search needs
 
--- src/writing.rt:21:5
 slice-write-out-3 : tie.Need-slice-write-out-3 Inv-loop μ-loop
 slice-write-out-3 c =
     let d = c .before .before .before .args .out .now in
     lt-length-set (set d 0 (c .before .before .before .args .tag)) 1 (getD (c .length-bytes .result) 0 0) (lt-length-set d 0 (c .before .before .before .args .tag) (omega arith))
 
--- src/writing.rt:23:5
 loop-holds : tie.Need-loop-holds Inv-loop μ-loop
 loop-holds c =
     let s = c .before .before .before in
     let o = headed (s .args .out .now) (s .args .tag) (c .length-bytes .result) in
     (search needs, refl, omega (arith, headed-length (s .args .out .now) (s .args .tag) (c .length-bytes .result)), paste-zero o 3 (s .args .value .now))
 
--- src/writing.rt:24:22
 shared-slice-read-out : tie.Need-shared-slice-read-out Inv-loop μ-loop
 shared-slice-read-out c = search needs
 
--- src/writing.rt:24:13
 add-out : tie.Need-add-out Inv-loop μ-loop
 add-out c = search needs
 
--- src/writing.rt:24:9
 slice-write-out-4 : tie.Need-slice-write-out-4 Inv-loop μ-loop
 slice-write-out-4 c =
     let a = c .before .before .before in
@@ -73,15 +59,12 @@ slice-write-out-4 c =
     let l = c .before .before .loop in
     omega (arith, ap length (l .inv .3) ∙ length-paste o 3 (s .args .value .now) (l .i) (omega arith) (omega arith))
 
--- src/writing.rt:25:9
 add-i : tie.Need-add-i Inv-loop μ-loop
 add-i c = search needs
 
--- src/writing.rt:23:5
 loop-less : tie.Need-loop-less Inv-loop μ-loop
 loop-less c = search needs
 
--- src/writing.rt:23:5
 loop-again : tie.Need-loop-again Inv-loop μ-loop
 loop-again c =
     let a = c .before .before .before in
@@ -95,7 +78,6 @@ loop-again c =
       ap (λ y. set y (3 + l .i) (getD v (l .i) 0)) (l .inv .3) ∙ paste-suc o 3 v (l .i) 0 (omega arith) (omega arith) ∙ ap (paste o 3 v) (sym (add-one (l .i))),
     )
 
--- src/writing.rt:13:1
 same-length : tie.Need-same-length Inv-loop μ-loop
 same-length c =
     let a = c .before .before in
@@ -105,7 +87,6 @@ same-length c =
     ap length (l .inv .3) ∙ length-paste o 3 (s .args .value .now) (l .i) (omega arith) (omega arith)
     ∙ headed-length (s .args .out .now) (s .args .tag) (a .length-bytes .result)
 
--- src/writing.rt:13:1
 returns : tie.Need-returns Inv-loop μ-loop
 returns c =
     let a = c .before .before in

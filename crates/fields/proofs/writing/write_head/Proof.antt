@@ -1,6 +1,6 @@
 -- A refusal of opening, too few bytes, or both fields.
-use mathlib.Core.Path.{_≡_, refl, sym, ap, _∙_}
-use Prim.Native.Nat.{_+_, _-_, _≤_}
+use mathlib.Core.Path.{refl, sym, _∙_}
+use Prim.Native.Nat.{_-_}
 use native.Mathlib.Omega.{arith}
 use lib.ListN.{length, take, drop, length-drop, length-take}
 use Rattle.heads.proofs.Opening.{opening-lengths}
@@ -8,26 +8,18 @@ use Rattle.fields.proofs.Storing.{head-refused, head-room, head-written
 use borrow.Author.Needs.{needs}
 use Rattle.fields.proofs.writing.write_head.Statement.{statement}
 use Rattle.fields.proofs.writing.write_head.Tie as tie
-use Rattle.fields.proofs.writing.write_head.Reads as reads
-use Rattle.fields.proofs.writing.write_head.Lts as lts
-use Rattle.fields.proofs.writing.put_field.Reads as put-field-reads
-use Rattle.heads.proofs.opening_refusal.Reads as opening-refusal-reads
 
--- src/writing.rt:33:9
 opening-refusal-requires : tie.Need-opening-refusal-requires
 opening-refusal-requires c κs = search needs
 
--- src/writing.rt:35:9
 returns : tie.Need-returns
 returns c =
     let e = c .before .opening-refusal .ensures in
     rw e (head-refused _ _ _ (rw e at (c .if1 .taken)))
 
--- src/writing.rt:38:9
 returns-2 : tie.Need-returns-2
 returns-2 c = head-room _ _ _ (sym (c .before .before .opening-refusal .ensures) ∙ c .before .if1 .left) (c .if2 .taken)
 
--- src/writing.rt:40:5
 put-field-requires : tie.Need-put-field-requires
 put-field-requires c κs =
     let o = c .before .before .before in
@@ -35,19 +27,15 @@ put-field-requires c κs =
     let l = opening-lengths (s .args .head .now) (s .args .calendar .now) (sym (o .opening-refusal .ensures) ∙ c .before .before .if1 .left) in
     (omega arith, omega arith)
 
--- src/writing.rt:41:28
 sub-put-field : tie.Need-sub-put-field
 sub-put-field c = search needs
 
--- src/writing.rt:41:28
 part-put-field-start : tie.Need-part-put-field-start
 part-put-field-start c = search needs
 
--- src/writing.rt:41:28
 part-put-field-end : tie.Need-part-put-field-end
 part-put-field-end c = search needs
 
--- src/writing.rt:41:5
 put-field-requires-2 : tie.Need-put-field-requires-2
 put-field-requires-2 c κs =
     let f = c .before .before .before in
@@ -58,11 +46,9 @@ put-field-requires-2 c κs =
     let e = head-length (s .args .head .now) (s .args .calendar .now) (s .args .out .now) x _ (l .0) (l .1) (f .before .before .if2 .left) (f .put-field .ensures) refl in
     (omega arith, omega (arith, e, length-take (length x - 20) (drop 20 x), length-drop 20 x))
 
--- src/writing.rt:30:1
 same-length : tie.Need-same-length
 same-length c = search needs
 
--- src/writing.rt:30:1
 returns-3 : tie.Need-returns-3
 returns-3 c =
     let f = c .before .before .before .before .before .before in

@@ -1,32 +1,23 @@
 -- A refusal of the point, too few bytes, or the field.
-use mathlib.Core.Path.{_≡_, sym, _∙_}
+use mathlib.Core.Path.{sym, _∙_}
 use native.Mathlib.Omega.{arith}
 use Rattle.fields.proofs.WritingRows.{point-refused, told-small, point-room, point-written}
 use borrow.Author.Needs.{needs}
 use Rattle.fields.proofs.writing.write_point.Statement.{statement}
 use Rattle.fields.proofs.writing.write_point.Tie as tie
-use Rattle.fields.proofs.writing.write_point.Reads as reads
-use Rattle.fields.proofs.writing.write_point.Lts as lts
-use Rattle.fields.proofs.writing.point_refusal.Reads as point-refusal-reads
-use Rattle.fields.proofs.writing.put_field.Reads as put-field-reads
 
--- src/writing.rt:61:9
 point-refusal-requires : tie.Need-point-refusal-requires
 point-refusal-requires c κs = search needs
 
--- src/writing.rt:63:9
 returns : tie.Need-returns
 returns c = let e = c .before .point-refusal .ensures in rw e (point-refused _ _ _ (rw e at (c .if1 .taken)))
 
--- src/writing.rt:65:20
 add-if2 : tie.Need-add-if2
 add-if2 c = search needs
 
--- src/writing.rt:66:9
 returns-2 : tie.Need-returns-2
 returns-2 c = point-room _ _ _ (sym (c .before .before .point-refusal .ensures) ∙ c .before .if1 .left) (c .if2 .taken)
 
--- src/writing.rt:68:5
 put-field-requires : tie.Need-put-field-requires
 put-field-requires c κs =
     let o = c .before .before .before in
@@ -34,11 +25,9 @@ put-field-requires c κs =
     let e = sym (o .point-refusal .ensures) ∙ c .before .before .if1 .left in
     (told-small (s .args .tag) (s .args .value .now) (s .args .out .now) e, omega arith)
 
--- src/writing.rt:58:1
 same-length : tie.Need-same-length
 same-length c = search needs
 
--- src/writing.rt:58:1
 returns-3 : tie.Need-returns-3
 returns-3 c =
     let f = c .before .before .before .before in

@@ -1,5 +1,5 @@
 -- Five groups of rows, one after the other.
-use mathlib.Core.Path.{_≡_, sym, _∙_}
+use mathlib.Core.Path.{sym, _∙_}
 use mathlib.Core.List.{_∷_, _++_}
 use native.Mathlib.Omega.{arith}
 use Rattle.numbers.proofs.Refusals.{told, passed}
@@ -9,18 +9,10 @@ use Rattle.ledger.proofs.EarlyRows.{standingRows, placesRow, numberRows
 use borrow.Author.Needs.{needs}
 use Rattle.ledger.proofs.adding.early_refusal.Statement.{statement}
 use Rattle.ledger.proofs.adding.early_refusal.Tie as tie
-use Rattle.ledger.proofs.adding.early_refusal.Reads as reads
-use Rattle.ledger.proofs.adding.early_refusal.Lts as lts
-use Rattle.points.proofs.form_refusal.Reads as form-refusal-reads
-use Rattle.ledger.proofs.adding.number_refusal.Reads as number-refusal-reads
-use Rattle.ledger.proofs.adding.state_refusal.Reads as state-refusal-reads
-use Rattle.points.proofs.value_refusal.Reads as value-refusal-reads
 
--- src/adding.rt:80:9
 state-refusal-requires : tie.Need-state-refusal-requires
 state-refusal-requires c κs = search needs
 
--- src/adding.rt:82:9
 returns : tie.Need-returns
 unfolding earlyRefusal
 returns c =
@@ -33,11 +25,9 @@ returns c =
     let x = valueRows (s .tag) v in
     let e = c .before .state-refusal .ensures in e ∙ sym (told a (b ++ placesRow (s .places) ∷ d ++ x) λ z. c .if1 .taken (e ∙ z))
 
--- src/adding.rt:84:9
 form-refusal-requires : tie.Need-form-refusal-requires
 form-refusal-requires c κs = search needs
 
--- src/adding.rt:86:9
 returns-2 : tie.Need-returns-2
 unfolding earlyRefusal
 returns-2 c =
@@ -50,7 +40,6 @@ returns-2 c =
     let x = valueRows (s .tag) v in
     let e = c .before .form-refusal .ensures in e ∙ sym (passed a (b ++ placesRow (s .places) ∷ d ++ x) tt (sym (c .before .before .before .state-refusal .ensures) ∙ c .before .before .if1 .left) ∙ told b (placesRow (s .places) ∷ d ++ x) λ z. c .if2 .taken (e ∙ z))
 
--- src/adding.rt:89:9
 returns-3 : tie.Need-returns-3
 unfolding earlyRefusal
 returns-3 c =
@@ -63,23 +52,18 @@ returns-3 c =
     let x = valueRows (s .tag) v in
     sym (passed a (b ++ placesRow (s .places) ∷ d ++ x) tt (sym (c .before .before .before .before .state-refusal .ensures) ∙ c .before .before .before .if1 .left) ∙ passed b (placesRow (s .places) ∷ d ++ x) tt (sym (c .before .before .form-refusal .ensures) ∙ c .before .if2 .left) ∙ six-told (s .places) (d ++ x) (c .if3 .taken))
 
--- src/adding.rt:93:33
 sub-number-refusal : tie.Need-sub-number-refusal
 sub-number-refusal c = search needs
 
--- src/adding.rt:93:33
 part-number-refusal-start : tie.Need-part-number-refusal-start
 part-number-refusal-start c = search needs
 
--- src/adding.rt:93:33
 part-number-refusal-end : tie.Need-part-number-refusal-end
 part-number-refusal-end c = let s = c .before .before .before .before .before .before .before .args in omega (arith, long-enough (s .tag) (s .value .now) (sym (c .before .before .before .form-refusal .ensures) ∙ c .before .before .if2 .left))
 
--- src/adding.rt:93:9
 number-refusal-requires : tie.Need-number-refusal-requires
 number-refusal-requires c κs = search needs
 
--- src/adding.rt:95:9
 returns-4 : tie.Need-returns-4
 unfolding earlyRefusal
 returns-4 c =
@@ -92,11 +76,9 @@ returns-4 c =
     let x = valueRows (s .tag) v in
     let e = c .before .number-refusal .ensures in e ∙ sym (passed a (b ++ placesRow (s .places) ∷ d ++ x) tt (sym (c .before .before .before .before .before .before .before .before .state-refusal .ensures) ∙ c .before .before .before .before .before .before .before .if1 .left) ∙ passed b (placesRow (s .places) ∷ d ++ x) tt (sym (c .before .before .before .before .before .before .form-refusal .ensures) ∙ c .before .before .before .before .before .if2 .left) ∙ six-passed (s .places) (d ++ x) (c .before .before .before .before .if3 .left) ∙ told d x λ z. c .if4 .taken (e ∙ z))
 
--- src/adding.rt:97:5
 value-refusal-requires : tie.Need-value-refusal-requires
 value-refusal-requires c κs = let s = c .before .before .before .before .before .before .before .before .before .before .args in right-length (s .tag) (s .value .now) (sym (c .before .before .before .before .before .before .form-refusal .ensures) ∙ c .before .before .before .before .before .if2 .left)
 
--- src/adding.rt:77:1
 returns-5 : tie.Need-returns-5
 unfolding earlyRefusal
 returns-5 c =

@@ -1,37 +1,27 @@
 -- The digits, then the order.
-use mathlib.Core.Path.{_≡_, ap, sym, _∙_}
+use mathlib.Core.Path.{ap, sym, _∙_}
 use mathlib.Core.Bool.{not}
 use native.Mathlib.Omega.{arith}
 use borrow.Author.Tests.{lt-ltb, le-ltb}
 use borrow.Author.Needs.{needs}
 use Rattle.ledger.proofs.adding.number_refusal.Statement.{statement}
 use Rattle.ledger.proofs.adding.number_refusal.Tie as tie
-use Rattle.ledger.proofs.adding.number_refusal.Reads as reads
-use Rattle.ledger.proofs.adding.number_refusal.Lts as lts
-use Rattle.numbers.proofs.is_below.Reads as is-below-reads
-use Rattle.numbers.proofs.is_number.Reads as is-number-reads
 
--- src/adding.rt:31:9
 is-number-requires : tie.Need-is-number-requires
 is-number-requires c κs = search needs
 
--- src/adding.rt:32:9
 returns : tie.Need-returns
 returns c = simp (ap not (sym (c .before .is-number .ensures)) ∙ c .if1 .taken)
 
--- src/adding.rt:35:9
 returns-2 : tie.Need-returns-2
 returns-2 c = simp (ap not (sym (c .before .before .is-number .ensures)) ∙ c .before .if1 .left, le-ltb 0 (c .before .before .before .before .args .points) (omega arith))
 
--- src/adding.rt:37:27
 slice-aggregate-is-below : tie.Need-slice-aggregate-is-below
 slice-aggregate-is-below c = search needs
 
--- src/adding.rt:37:9
 is-below-requires : tie.Need-is-below-requires
 is-below-requires c κs = search needs
 
--- src/adding.rt:38:9
 returns-3 : tie.Need-returns-3
 returns-3 c =
     let s = c .before .before .before .before .before .before .before in
@@ -41,7 +31,6 @@ returns-3 c =
       ap not (sym (c .before .is-below .ensures)) ∙ c .if3 .taken,
     )
 
--- src/adding.rt:28:1
 returns-4 : tie.Need-returns-4
 returns-4 c =
     let s = c .before .before .before .before .before .before .before in

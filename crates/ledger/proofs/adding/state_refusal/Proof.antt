@@ -1,26 +1,19 @@
 -- Soundness, then room.
-use mathlib.Core.Path.{_≡_, sym, _∙_}
+use mathlib.Core.Path.{sym, _∙_}
 use borrow.Author.Tests.{le-leb, lt-leb}
 use borrow.Author.Needs.{needs}
 use Rattle.ledger.proofs.adding.state_refusal.Statement.{statement}
 use Rattle.ledger.proofs.adding.state_refusal.Tie as tie
-use Rattle.ledger.proofs.adding.state_refusal.Reads as reads
-use Rattle.ledger.proofs.adding.state_refusal.Lts as lts
-use Rattle.ledger.proofs.states.is_unsound.Reads as is-unsound-reads
 
--- src/adding.rt:51:8
 is-unsound-requires : tie.Need-is-unsound-requires
 is-unsound-requires c κs = search needs
 
--- src/adding.rt:52:9
 returns : tie.Need-returns
 returns c = simp (sym (c .before .is-unsound .ensures) ∙ c .if1 .taken)
 
--- src/adding.rt:57:9
 returns-2 : tie.Need-returns-2
 returns-2 c = simp (sym (c .before .before .before .before .is-unsound .ensures) ∙ c .before .before .before .if1 .left, le-leb _ _ (c .if2 .taken))
 
--- src/adding.rt:48:1
 returns-3 : tie.Need-returns-3
 returns-3 c = simp (sym (c .before .before .before .before .is-unsound .ensures) ∙ c .before .before .before .if1 .left, lt-leb _ _ (c .if2 .left))
 

@@ -15,34 +15,27 @@ use Rattle.numbers.proofs.size_of.Reads as size-of-reads
 size : (c : lts.After-size-of (size-of-reads.Asked, size-of-reads.Learnt, or-zero-reads.Asked, or-zero-reads.Learnt) reads.Pre reads.Post) → c .size-of .result ≡ natAbs (c .before .before .args .settled)
 size c = rw (toZ-ofZ (c .before .before .fits .settled)) at (c .size-of .ensures)
 
--- src/closing.rt:19:36
 size-of-requires : tie.Need-size-of-requires
 size-of-requires c κs = search needs
 
--- src/closing.rt:19:16
 add-result : tie.Need-add-result
 add-result c = record { fits = omega (arith, size c) }
 
--- src/closing.rt:19:9
 returns : tie.Need-returns
 returns c = let s = c .before .before in rw (size c) (shortfall-below (s .args .contract) (s .args .settled) (rw (toZ-ofZ (s .fits .settled)) at (c .before .if1 .taken)))
 
--- src/closing.rt:21:9
 or-zero-requires : tie.Need-or-zero-requires
 or-zero-requires c κs = search needs
 
--- src/closing.rt:25:9
 sub-result : tie.Need-sub-result
 sub-result c = search needs
 
--- src/closing.rt:14:1
 returns-2 : tie.Need-returns-2
 returns-2 c =
     let s = c .before .before .before in
     let e = shortfall-above (s .args .contract) (s .args .settled) (rw (toZ-ofZ (s .fits .settled)) at (c .before .before .if1 .left)) in
     omega (arith, e, rw (toZ-ofZ (s .fits .settled)) at (c .before .or-zero .ensures))
 
--- src/closing.rt:14:1
 returns-3 : tie.Need-returns-3
 returns-3 c =
     let s = c .before .before .before in

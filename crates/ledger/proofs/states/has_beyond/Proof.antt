@@ -12,9 +12,6 @@ use Rattle.numbers.specs.Lists.{any}
 use Rattle.numbers.proofs.Scanning.{any-here, any-next, any-end}
 use Rattle.ledger.proofs.states.has_beyond.Statement.{statement}
 use Rattle.ledger.proofs.states.has_beyond.Tie as tie
-use Rattle.ledger.proofs.states.has_beyond.Reads as reads
-use Rattle.ledger.proofs.states.has_beyond.Lts as lts
-use Rattle.numbers.proofs.size_of.Reads as size-of-reads
 
 abbrev Inv-loop : tie.InvT-loop
 Inv-loop most totals i₀ i = (i ≤ 6) × (length totals ≡ 6) × (any (λ total. ltb most (natAbs total)) totals ≡ any (λ total. ltb most (natAbs total)) (drop i totals))
@@ -22,38 +19,30 @@ Inv-loop most totals i₀ i = (i ≤ 6) × (length totals ≡ 6) × (any (λ tot
 abbrev μ-loop : tie.MeasureT-loop
 μ-loop most totals i₀ i = 6 - i
 
--- src/states.rt:53:5
 loop-holds : tie.Need-loop-holds Inv-loop μ-loop
 loop-holds c = (search needs, search needs, refl)
 
--- src/states.rt:54:36
 mul-size-of : tie.Need-mul-size-of Inv-loop μ-loop
 mul-size-of c = search needs
 
--- src/states.rt:54:36
 array-copy-out-size-of : tie.Need-array-copy-out-size-of Inv-loop μ-loop
 array-copy-out-size-of c = search needs
 
--- src/states.rt:54:19
 size-of-requires : tie.Need-size-of-requires Inv-loop μ-loop
 size-of-requires c κs = search needs
 
--- src/states.rt:55:13
 returns : tie.Need-returns Inv-loop μ-loop
 returns c =
     let s = c .before .before .before .before .before in
     let l = c .before .before .before .before .loop in
     sym (l .inv .2 ∙ any-here _ (s .args .t1) (l .i) (pos 0) (omega arith) (lt-ltb _ _ (rw (c .before .size-of .ensures, toZ-ofZ (sfits-of (c .before .before .size-of-arg .given))) at (c .if1 .taken))))
 
--- src/states.rt:57:9
 add-i : tie.Need-add-i Inv-loop μ-loop
 add-i c = search needs
 
--- src/states.rt:53:5
 loop-less : tie.Need-loop-less Inv-loop μ-loop
 loop-less c = search needs
 
--- src/states.rt:53:5
 loop-again : tie.Need-loop-again Inv-loop μ-loop
 loop-again c =
     let s = c .before .before .before .before .before in
@@ -63,7 +52,6 @@ loop-again c =
       l .inv .2 ∙ any-next _ (s .args .t1) (l .i) (pos 0) (omega arith) (le-ltb _ _ (rw (c .before .size-of .ensures, toZ-ofZ (sfits-of (c .before .before .size-of-arg .given))) at (c .if1 .left))),
     )
 
--- src/states.rt:49:1
 returns-2 : tie.Need-returns-2 Inv-loop μ-loop
 returns-2 c = let l = c .before .loop in sym (l .inv .2 ∙ any-end _ (c .before .before .args .t1) (l .i) (omega arith))
 

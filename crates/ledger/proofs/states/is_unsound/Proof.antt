@@ -1,5 +1,5 @@
 -- Each way out is one of the four parts of the test.
-use mathlib.Core.Path.{_≡_, ap, sym, _∙_}
+use mathlib.Core.Path.{ap, sym, _∙_}
 use mathlib.Core.Bool.{not}
 use native.Mathlib.Omega.{arith}
 use borrow.Author.Tests.{eq-eqb, ne-eqb, lt-ltb, le-ltb}
@@ -7,22 +7,14 @@ use Rattle.ledger.specs.States.{isUnsound}
 use borrow.Author.Needs.{needs}
 use Rattle.ledger.proofs.states.is_unsound.Statement.{statement}
 use Rattle.ledger.proofs.states.is_unsound.Tie as tie
-use Rattle.ledger.proofs.states.is_unsound.Reads as reads
-use Rattle.ledger.proofs.states.is_unsound.Lts as lts
-use Rattle.heads.proofs.content_refusal.Reads as content-refusal-reads
-use Rattle.ledger.proofs.states.has_beyond.Reads as has-beyond-reads
-use Rattle.numbers.proofs.is_number.Reads as is-number-reads
 
--- src/states.rt:71:8
 content-refusal-requires : tie.Need-content-refusal-requires
 content-refusal-requires c κs = search needs
 
--- src/states.rt:72:9
 returns : tie.Need-returns
 unfolding isUnsound
 returns c = simp (ne-eqb _ _ (rw (c .before .content-refusal .ensures) at (c .if1 .taken)))
 
--- src/states.rt:76:9
 returns-2 : tie.Need-returns-2
 unfolding isUnsound
 returns-2 c = simp (
@@ -30,19 +22,15 @@ returns-2 c = simp (
   lt-ltb _ _ (c .if2 .taken),
 )
 
--- src/states.rt:79:42
 cast-has-beyond : tie.Need-cast-has-beyond
 cast-has-beyond c = search needs
 
--- src/states.rt:79:27
 mul-has-beyond : tie.Need-mul-has-beyond
 mul-has-beyond c = search needs
 
--- src/states.rt:79:8
 has-beyond-requires : tie.Need-has-beyond-requires
 has-beyond-requires c κs = search needs
 
--- src/states.rt:80:9
 returns-3 : tie.Need-returns-3
 unfolding isUnsound
 returns-3 c = simp (
@@ -51,7 +39,6 @@ returns-3 c = simp (
   sym (c .before .has-beyond .ensures) ∙ c .if3 .taken,
 )
 
--- src/states.rt:83:9
 returns-4 : tie.Need-returns-4
 unfolding isUnsound
 returns-4 c = simp (
@@ -61,15 +48,12 @@ returns-4 c = simp (
   le-ltb 0 (c .before .before .before .before .before .before .before .before .before .before .args .state .points) (omega arith),
 )
 
--- src/states.rt:86:25
 slice-aggregate-is-number : tie.Need-slice-aggregate-is-number
 slice-aggregate-is-number c = search needs
 
--- src/states.rt:86:6
 is-number-requires : tie.Need-is-number-requires
 is-number-requires c κs = search needs
 
--- src/states.rt:66:1
 returns-5 : tie.Need-returns-5
 unfolding isUnsound
 returns-5 c = simp (

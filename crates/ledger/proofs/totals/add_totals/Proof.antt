@@ -11,9 +11,6 @@ use Rattle.ledger.specs.States.{plus}
 use Rattle.ledger.proofs.SlotTotals.{plus-at, plus-length}
 use Rattle.ledger.proofs.totals.add_totals.Statement.{statement}
 use Rattle.ledger.proofs.totals.add_totals.Tie as tie
-use Rattle.ledger.proofs.totals.add_totals.Reads as reads
-use Rattle.ledger.proofs.totals.add_totals.Lts as lts
-use Rattle.numbers.proofs.add_bounded.Reads as add-bounded-reads
 
 abbrev Inv-loop : tie.InvT-loop
 Inv-loop totals found sums₀ i₀ sums i = (i ≤ 6) × (length totals ≡ 6) × (length found ≡ 6) × (length (plus totals found) ≡ 6) × (sums ≡ front totals (plus totals found) i)
@@ -21,52 +18,41 @@ Inv-loop totals found sums₀ i₀ sums i = (i ≤ 6) × (length totals ≡ 6) �
 abbrev μ-loop : tie.MeasureT-loop
 μ-loop totals found sums₀ i₀ sums i = 6 - i
 
--- src/results.rt:52:5
 loop-holds : tie.Need-loop-holds Inv-loop μ-loop
 loop-holds c =
     let a : length (c .args .t1) ≡ 6 = search needs in
     let b : length (c .args .t2) ≡ 6 = search needs in
     (search needs, a, b, plus-length _ _ (a ∙ sym b) ∙ a, refl)
 
--- src/results.rt:53:40
 mul-add-bounded : tie.Need-mul-add-bounded Inv-loop μ-loop
 mul-add-bounded c = search needs
 
--- src/results.rt:53:40
 array-copy-out-add-bounded : tie.Need-array-copy-out-add-bounded Inv-loop μ-loop
 array-copy-out-add-bounded c = search needs
 
--- src/results.rt:53:51
 mul-add-bounded-2 : tie.Need-mul-add-bounded-2 Inv-loop μ-loop
 mul-add-bounded-2 c = search needs
 
--- src/results.rt:53:51
 array-copy-out-add-bounded-2 : tie.Need-array-copy-out-add-bounded-2 Inv-loop μ-loop
 array-copy-out-add-bounded-2 c = search needs
 
--- src/results.rt:53:19
 add-bounded-requires : tie.Need-add-bounded-requires Inv-loop μ-loop
 add-bounded-requires c κs =
     let s = c .before .before .before .before in
     rw (toZ-ofZ (sfits-of (c .before .add-bounded-arg .given)), toZ-ofZ (sfits-of (c .add-bounded-arg2 .given))) (s .pre (c .before .before .before .loop .i))
 
--- src/results.rt:53:9
 mul-sums : tie.Need-mul-sums Inv-loop μ-loop
 mul-sums c = search needs
 
--- src/results.rt:53:9
 array-set-from-sums : tie.Need-array-set-from-sums Inv-loop μ-loop
 array-set-from-sums c = search needs
 
--- src/results.rt:54:9
 add-i : tie.Need-add-i Inv-loop μ-loop
 add-i c = search needs
 
--- src/results.rt:52:5
 loop-less : tie.Need-loop-less Inv-loop μ-loop
 loop-less c = search needs
 
--- src/results.rt:52:5
 loop-again : tie.Need-loop-again Inv-loop μ-loop
 loop-again c =
     let l = c .before .before .before .before .loop in
@@ -77,7 +63,6 @@ loop-again c =
     (sym (plus-at _ _ (l .i) (omega arith) (omega arith))) in
     (omega arith, l .inv .1, l .inv .2, l .inv .3, rw (toZ-ofZ (sfits-of (c .add-bounded .ok)), l .inv .4, e) (front-more _ _ (l .i) (pos 0) (omega arith) (omega arith)))
 
--- src/results.rt:46:1
 returns : tie.Need-returns Inv-loop μ-loop
 returns c = let l = c .before .loop in l .inv .4 ∙ front-all _ _ (l .i) (omega arith) (omega arith)
 

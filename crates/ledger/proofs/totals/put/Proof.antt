@@ -9,8 +9,6 @@ use borrow.Author.Needs.{needs, sfits-of}
 use Rattle.numbers.proofs.Filling.{front, front-more, front-all, front-length}
 use Rattle.ledger.proofs.totals.put.Statement.{statement}
 use Rattle.ledger.proofs.totals.put.Tie as tie
-use Rattle.ledger.proofs.totals.put.Reads as reads
-use Rattle.ledger.proofs.totals.put.Lts as lts
 
 abbrev Inv-loop : tie.InvT-loop
 Inv-loop places₀ found i₀ places i = (i ≤ 6) × (length found ≡ 6) × (length places₀ ≡ 6) × (places ≡ front places₀ found i)
@@ -18,45 +16,35 @@ Inv-loop places₀ found i₀ places i = (i ≤ 6) × (length found ≡ 6) × (l
 abbrev μ-loop : tie.MeasureT-loop
 μ-loop places₀ found i₀ places i = 6 - i
 
--- src/results.rt:65:5
 loop-holds : tie.Need-loop-holds Inv-loop μ-loop
 loop-holds c = (search needs, search needs, search needs, refl)
 
--- src/results.rt:66:21
 mul-places : tie.Need-mul-places Inv-loop μ-loop
 mul-places c = search needs
 
--- src/results.rt:66:21
 array-copy-out-places : tie.Need-array-copy-out-places Inv-loop μ-loop
 array-copy-out-places c = search needs
 
--- src/results.rt:66:9
 mul-t10 : tie.Need-mul-t10 Inv-loop μ-loop
 mul-t10 c = search needs
 
--- src/results.rt:66:9
 slice-set-from-places : tie.Need-slice-set-from-places Inv-loop μ-loop
 slice-set-from-places c = let l = c .before .before .loop in omega (arith, ap length (l .inv .3) ∙ front-length _ _ (l .i) (omega arith) (omega arith))
 
--- src/results.rt:67:9
 add-i : tie.Need-add-i Inv-loop μ-loop
 add-i c = search needs
 
--- src/results.rt:65:5
 loop-less : tie.Need-loop-less Inv-loop μ-loop
 loop-less c = search needs
 
--- src/results.rt:65:5
 loop-again : tie.Need-loop-again Inv-loop μ-loop
 loop-again c =
     let l = c .before .before .loop in
     (omega arith, l .inv .1, l .inv .2, rw (toZ-ofZ (sfits-of (c .places .given)), l .inv .3) (front-more _ _ (l .i) (pos 0) (omega arith) (omega arith)))
 
--- src/results.rt:60:1
 same-length : tie.Need-same-length Inv-loop μ-loop
 same-length c = let l = c .before .loop in ap length (l .inv .3) ∙ front-length _ _ (l .i) (omega arith) (omega arith)
 
--- src/results.rt:60:1
 returns : tie.Need-returns Inv-loop μ-loop
 returns c = let l = c .before .loop in l .inv .3 ∙ front-all _ _ (l .i) (omega arith) (omega arith)
 
