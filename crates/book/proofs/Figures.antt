@@ -9,13 +9,13 @@ use borrow.Author.Tests.{le-ltb}
 use Rattle.heads.specs.Heads.{headOf}
 use Rattle.ledger.specs.States.{opened, taken}
 use Rattle.ledger.specs.Operations.{closeOf}
-use Rattle.ledger.specs.Demand3.{accepted, closed, replyOf, replies, program}
 use Rattle.ledger.specs.declared.State.{State}
 use Rattle.ledger.proofs.Sound.{open-refusal, open-good, add-refusal, add-good, close-refusal, Sound, opened-sound, add-sound, closing-sound}
 use Rattle.book.specs.Reading.{Reading, refused, good, Points, Book, readBook}
 use Rattle.book.specs.Settling.{closingOf, settlingRefusal}
 use Rattle.book.specs.Demand2.{callsOf, GivesFigures}
 use Rattle.book.proofs.Readings.{Points-read, none, more, book-read, Told, book-told}
+use Rattle.ledger.specs.Calls.{accepted, closed, replyOf, replies, program}
 
 -- ---- the closing
 

@@ -1,13 +1,7 @@
 pub mod FigureSteps
 pub mod EarlyRows
 pub mod SlotTotals
-pub mod Sums
 pub mod Taking
 pub mod Sound
 pub mod TotalBounds
 pub mod AddSteps
-pub mod Rounding
-pub mod Divisors
-pub mod Demand3
-pub mod Examples
-pub mod Sequence

@@ -21,8 +21,6 @@ use Rattle.points.specs.Points.{numberOf}
 use Rattle.ledger.specs.States.{opened, noState, isUnsound, plus, taken}
 use Rattle.ledger.specs.Figures.{figuresOf, noFigures}
 use Rattle.ledger.specs.Operations.{openOf, pointTests, pointRefusal, addingRefusal, resultsOf, addOf, closingRefusal, closeOf}
-use Rattle.ledger.specs.Account.{Call, adding, closing}
-use Rattle.ledger.specs.Demand3.{Reply, refused, accepted, closed, replyOf, replies, program}
 use Rattle.heads.specs.declared.Head.{Head}
 use Rattle.ledger.specs.declared.State.{State}
 use Rattle.ledger.specs.declared.Opened.{Opened}
@@ -32,6 +30,7 @@ use Rattle.numbers.proofs.Tests.{noneOf, none-cons, no-false}
 use Rattle.heads.proofs.Opening.{opening-content, opens}
 use Rattle.results.proofs.Bounds.{isBeyond}
 use Rattle.ledger.proofs.Taking.{takes, results-small}
+use Rattle.ledger.specs.Calls.{Call, adding, closing, Reply, refused, accepted, closed, replyOf, replies, program}
 
 -- ---- the answers of the operations, by the refusal
 

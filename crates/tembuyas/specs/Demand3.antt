@@ -5,7 +5,7 @@ use mathlib.Core.Bool.{Bool, cond, not, _&&_, _||_}
 use mathlib.Core.List.{List, [], _∷_, _++_, map}
 use mathlib.Core.Option.{Option, none, some}
 use Prim.Native.Nat.{ℕ, _+_, _*_, _<_}
-use lib.Dec.{T, eqb}
+use lib.Dec.{T}
 use lib.IntN.{ℤ, pos}
 use lib.Signed.{leZ}
 use lib.ListN.{length}
@@ -13,30 +13,10 @@ use Rattle.numbers.specs.Lists.{any, gather}
 use Rattle.numbers.specs.Integers.{divides, sumℤ}
 use Rattle.heads.specs.Heads.{headOf}
 use Rattle.points.specs.Points.{Point, Kind, consumer, generator, unknown, Quotient, kindOf, quotients, rounded}
-use Rattle.ledger.specs.Operations.{openOf, addOf, closeOf}
-use Rattle.ledger.specs.Account.{Call, adding, closing, Account, opening, takes, after, Said, partsOfkW, partsOfWatt, partsOfWh, account}
+use Rattle.tembuyas.specs.Account.{Account, opening, takes, after, Said, partsOfkW, partsOfWatt, partsOfWh, account}
 use Rattle.heads.specs.declared.Head.{Head}
-use Rattle.ledger.specs.declared.State.{State}
 use Rattle.ledger.specs.declared.Figures.{Figures}
-
--- ---- the program: each call gets 'the state that the opening or the last adding gave; a closing leaves it as it is'
-
-pub data Reply : Type 0 where
-  refused : ℕ → Reply
-  accepted : Reply
-  closed : Figures → Reply
-
-abbrev pub replyOf : ℕ → Reply → Reply
-replyOf refusal reply = cond (eqb refusal 0) reply (refused refusal)
-
-unfoldable pub replies : State → List Call → List Reply
-replies state [] = []
-replies state (adding tag value places ∷ calls) =
-    replyOf (addOf state tag value places .refusal) accepted ∷ replies (addOf state tag value places .state) calls
-replies state (closing ∷ calls) = replyOf (closeOf state .refusal) (closed (closeOf state .figures)) ∷ replies state calls
-
-unfoldable pub program : List ℕ → List ℕ → List Call → List Reply
-program head calendar calls = replyOf (openOf head calendar .refusal) accepted ∷ replies (openOf head calendar .state) calls
+use Rattle.ledger.specs.Calls.{Call, adding, closing, Reply, refused, accepted, closed, program}
 
 -- ---- the points that the account took, before each call
 

@@ -14,12 +14,12 @@ use Rattle.readings.specs.Readings.{firstLarge, windowSums, slotSums, daySums, 
 use Rattle.baseline.specs.Choosing.{walk, lowest, used, chosen}
 use Rattle.heads.specs.Heads.{headOf, contentRefusal, openingRefusal}
 use Rattle.points.specs.Points.{quotients}
 use Rattle.ledger.specs.States.{isUnsound, plus, taken}
 use Rattle.ledger.specs.Figures.{figuresOf}
 use Rattle.ledger.specs.Operations.{openOf, pointRefusal, addingRefusal, addOf, closingRefusal, closeOf}
-use Rattle.ledger.specs.Account.{Call, adding, closing, opening, Said, saysOf, account, partsOfkW}
-use Rattle.ledger.specs.Demand3.{refused, accepted, closed, replies, program}
-use Rattle.ledger.specs.Examples.{head, highVoltage}
+use Rattle.tembuyas.specs.Account.{opening, Said, saysOf, account, partsOfkW}
+use Rattle.tembuyas.specs.Examples.{head, highVoltage}
+use Rattle.ledger.specs.Calls.{Call, adding, closing, refused, accepted, closed, replies, program}
 
 -- the head of the examples with two points to come: contract 1,000 kW, losses 700, 400, 200
 abbrev pub twoPoints : List ℕ

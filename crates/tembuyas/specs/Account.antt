@@ -10,13 +10,9 @@ use lib.ListN.{getD, replicate}
 use Rattle.numbers.specs.Integers.{orZero, sumℤ}
 use Rattle.heads.specs.Heads.{headOf, openingRefusal}
 use Rattle.points.specs.Points.{Quotient, kindOf, numberOf, quotients}
 use Rattle.ledger.specs.Operations.{pointRefusal}
+use Rattle.ledger.specs.Calls.{Call, adding, closing}
 use Rattle.heads.specs.declared.Head.{Head}
-
--- A call after the opening. An adding is given a tag, a value and a number of lent places.
-pub data Call : Type 0 where
-  adding : ℕ → List ℕ → ℕ → Call
-  closing : Call
 
 -- 'It holds head, calendar, points taken, last number and an exact sum.'
 pub record Account : Type 0 where

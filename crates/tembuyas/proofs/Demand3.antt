@@ -14,22 +14,23 @@ use Rattle.numbers.specs.Lists.{any, gather}
 use Rattle.numbers.specs.Integers.{divides, sumℤ}
 use Rattle.heads.specs.Heads.{headOf, openingRefusal}
 use Rattle.points.specs.Points.{Point, kindOf, numberOf, quotients, results}
 use Rattle.ledger.specs.States.{noState, plus, taken}
 use Rattle.ledger.specs.Figures.{figuresOf}
 use Rattle.ledger.specs.Operations.{pointRefusal, addingRefusal, closingRefusal, closeOf}
-use Rattle.ledger.specs.Account.{Call, adding, closing, Account, product, partsOfkW, partsOfWatt, partsOfWh, exactly, exactSum, exactShortfall, opening, Said, said, saysOf, allRefused, account}
-use Rattle.ledger.specs.Demand3.{refused, closed, replyOf, replies, program, takenBefore, takenAll, allQuotients, roundedTotal, noRemainder, noLoss, keepsFractions, Accurate, Agree, both-refuse, both-accept, both-close, AgreeAll, end, next, Demand3}
+use Rattle.tembuyas.specs.Account.{Account, product, partsOfkW, partsOfWatt, partsOfWh, exactly, exactSum, exactShortfall, opening, Said, said, saysOf, allRefused, account}
+use Rattle.tembuyas.specs.Demand3.{takenBefore, takenAll, allQuotients, roundedTotal, noRemainder, noLoss, keepsFractions, Accurate, Agree, both-refuse, both-accept, both-close, AgreeAll, end, next, Demand3}
 use Rattle.heads.specs.declared.Head.{Head}
 use Rattle.ledger.specs.declared.State.{State}
 use Rattle.ledger.specs.declared.Figures.{Figures}
 use Rattle.numbers.proofs.Tests.{every, none-append, gather-append}
-use Rattle.ledger.proofs.Sums.{sum-append, taken-total}
+use Rattle.tembuyas.proofs.Sums.{sum-append, taken-total}
 use Rattle.ledger.proofs.SlotTotals.{plus-length}
-use Rattle.ledger.proofs.Rounding.{whole, compared}
+use Rattle.tembuyas.proofs.Rounding.{whole, compared}
 use Rattle.heads.proofs.Opening.{opens}
 use Rattle.ledger.proofs.Taking.{takes, six-quotients, six-results}
-use Rattle.ledger.proofs.Divisors.{goes-by, wh-pos, wholes}
+use Rattle.tembuyas.proofs.Divisors.{goes-by, wh-pos, wholes}
 use Rattle.ledger.proofs.Sound.{Sound, open-good, open-bad, opened-sound, add-good, add-bad, adding-sound, taken-sound, close-good, close-bad, closing-sound, nothing-taken, nothing-closed}
+use Rattle.ledger.specs.Calls.{Call, adding, closing, refused, closed, replyOf, replies, program}
 
 -- ---- what holds between the state, the account and the points taken, after any calls
 

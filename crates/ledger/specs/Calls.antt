@@ -1,0 +1,33 @@
+-- A sequence of calls on one test, and what the program answers to each (document 01, 'Closing figures').
+use mathlib.Core.Bool.{cond}
+use mathlib.Core.List.{List, [], _∷_}
+use Prim.Native.Nat.{ℕ}
+use lib.Dec.{eqb}
+use Rattle.ledger.specs.Operations.{openOf, addOf, closeOf}
+use Rattle.ledger.specs.declared.State.{State}
+use Rattle.ledger.specs.declared.Figures.{Figures}
+
+-- A call after the opening. An adding is given a tag, a value and a number of lent places.
+pub data Call : Type 0 where
+  adding : ℕ → List ℕ → ℕ → Call
+  closing : Call
+
+-- what the program answers to a call
+pub data Reply : Type 0 where
+  refused : ℕ → Reply
+  accepted : Reply
+  closed : Figures → Reply
+
+abbrev pub replyOf : ℕ → Reply → Reply
+replyOf refusal reply = cond (eqb refusal 0) reply (refused refusal)
+
+-- Each call gets 'the state that the opening or the last adding gave; a closing leaves it as it is'.
+unfoldable pub replies : State → List Call → List Reply
+replies state [] = []
+replies state (adding tag value places ∷ calls) =
+    replyOf (addOf state tag value places .refusal) accepted ∷ replies (addOf state tag value places .state) calls
+replies state (closing ∷ calls) = replyOf (closeOf state .refusal) (closed (closeOf state .figures)) ∷ replies state calls
+
+-- 'The sequence has one opening, at its start.'
+unfoldable pub program : List ℕ → List ℕ → List Call → List Reply
+program head calendar calls = replyOf (openOf head calendar .refusal) accepted ∷ replies (openOf head calendar .state) calls
