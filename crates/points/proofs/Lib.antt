@@ -1,1 +1,2 @@
 pub mod PointRows
+pub mod SlotExamples

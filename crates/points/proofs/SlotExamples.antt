@@ -1,0 +1,11 @@
+-- The slot result of a consumer at the numbers of document 01's examples: high voltage, loss 400, a baseline of 24 × 1,200. Assumes nothing.
+use mathlib.Core.Path.{_≡_, refl}
+use lib.IntN.{ℤ, pos, negsuc}
+use Rattle.points.specs.Points.{consumerQuotient, rounded}
+
+-- use 240 (H), 241 (I), 1,200 and 1,201 (J)
+pub slot-examples : (rounded (consumerQuotient 400 28_800 240) ≡ pos 1_000)
+    × (rounded (consumerQuotient 400 28_800 241) ≡ pos 998)
+    × (rounded (consumerQuotient 400 28_800 1_200) ≡ pos 0)
+    × (rounded (consumerQuotient 400 28_800 1_201) ≡ negsuc 1)
+slot-examples = (refl, refl, refl, refl)
