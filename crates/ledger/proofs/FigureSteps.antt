@@ -6,9 +6,9 @@ use native.Mathlib.Omega.{arith}
 use lib.IntN.{ℤ, pos, negsuc, natAbs}
 use lib.Signed.{mag, ltZ}
 use borrow.Author.Tests.{ltb-true}
-use Rattle.numbers.specs.Integers.{orZero}
+use Rattle.numbers.specs.Integers.{floorDiv, orZero}
 use Rattle.numbers.proofs.Differences.{⊖s}
-use Rattle.ledger.specs.Figures.{settledOf, shortfallOf}
+use Rattle.ledger.specs.Figures.{shortfallOf}
 
 -- below zero the shortfall exceeds the contract
 pub shortfall-below : (contract : ℕ) (settled : ℤ) → ltZ settled (pos 0) ≡ true → contract + natAbs settled ≡ shortfallOf contract settled
@@ -20,6 +20,6 @@ shortfall-above contract (pos n) t = simp ⊖s (omega arith)
 shortfall-above contract (negsuc n) t = absurd (let e : _≡_ {A = ℕ} 0 1 = cc in omega arith)
 
 -- a settled figure is far from the ends of its type
-pub settled-small : (total : ℤ) → mag total < 9223372036854775808 → natAbs (settledOf total) < 9000000000000000000
+pub settled-small : (total : ℤ) → mag total < 9223372036854775808 → natAbs (floorDiv total 3_000) < 9000000000000000000
 settled-small (pos n) h = omega arith
 settled-small (negsuc n) h = omega arith
