@@ -1,27 +1,21 @@
--- How large a baseline is, and how far back the chosen days are. Assumes nothing.
+-- How far back the chosen days are. Assumes nothing.
 use mathlib.Core.Bool.{Bool, true, false, cond}
-use mathlib.Core.List.{List, []}
+use mathlib.Core.List.{List}
 use Prim.Native.Nat.{ℕ, zero, suc, _-_, _≤_}
 use native.Mathlib.Omega.{arith}
 use lib.Dec.{ltb}
-use lib.ListN.{length, getD, replicate}
-use Rattle.numbers.specs.Lists.{run, sum}
+use lib.ListN.{length, replicate}
+use Rattle.numbers.specs.Lists.{run}
 use Rattle.numbers.proofs.Filling.{run-length}
 use Rattle.calendar.specs.Eligible.{ofDay, isEligible, eligibleDays}
 use Rattle.readings.specs.Readings.{windowSums, Back}
 use Rattle.baseline.specs.Choosing.{chosen}
-use Rattle.baseline.specs.Baseline.{chosenDays, baseline}
+use Rattle.baseline.specs.Baseline.{chosenDays}
 use Rattle.baseline.specs.Days.{Rising, choice}
 use Rattle.baseline.specs.declared.choosing.Chosen.{Chosen}
 use Rattle.baseline.proofs.Rising.{rising-far}
 use Rattle.baseline.proofs.Flags.{flags-rising, flags-filter}
 use Rattle.baseline.proofs.Lowest.{chosen-rising, chosen-length}
-
-pub baseline-bound : (sums : List (List ℕ)) (earlier j : ℕ) → ((i k : ℕ) → getD (getD sums i []) k 0 ≤ 4_000_000_000) → earlier ≤ 6_000_000_000
-    → baseline sums earlier j ≤ 48_000_000_000
-baseline-bound sums earlier j h l = omega (arith, h 0 j)
-
--- ---- days
 
 eligible-rising : (test : ℕ) (marks : List ℕ) → Rising 0 30 (eligibleDays test marks)
 eligible-rising test marks =

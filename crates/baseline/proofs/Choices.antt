@@ -1,6 +1,6 @@
 -- The answer on the days that stand. Assumes nothing.
 use mathlib.Core.Path.{_≡_, refl, sym, ap, _∙_}
-use mathlib.Core.Bool.{Bool, true, false, cond, not}
+use mathlib.Core.Bool.{true, false}
 use mathlib.Core.List.{List, [], _∷_}
 use Prim.Native.Nat.{ℕ, _<_, _≤_}
 use native.Mathlib.Omega.{arith}
@@ -11,7 +11,6 @@ use borrow.Author.Tests.{lt-ltb, le-ltb}
 use Rattle.baseline.specs.Choosing.{standing, lowest, used, chosen}
 use Rattle.baseline.specs.Days.{Rising, Holds, choice}
 use Rattle.baseline.specs.declared.choosing.Round.{Round}
-use Rattle.baseline.specs.declared.choosing.Chosen.{Chosen}
 use Rattle.baseline.proofs.Rising.{without}
 use Rattle.baseline.proofs.Rounds.{standing-rising}
 use Rattle.baseline.proofs.Lowest.{used-five, used-fewer, four-left}
@@ -23,20 +22,6 @@ few-chosen days h = simp (lt-ltb (length days) 4 h)
 four-chosen : (days : List ℕ) → length days ≡ 4 → choice days ≡ record { enough = true; days = days }
 unfolding choice
 four-chosen days h = simp (le-ltb (length days) 4 (omega arith))
-
--- what an answer tells
-module _ (days : List ℕ) where
-  pub choice-enough : choice days .enough ≡ not (ltb (length days) 4)
-  unfolding choice
-  choice-enough = go (ltb (length days) 4)
-    where
-      go : (t : Bool) → cond {A = Chosen} t (record { enough = false; days = replicate 4 0 }) (record { enough = true; days = days }) .enough ≡ not t
-      go true = refl
-      go false = refl
-
-  pub choice-days : 4 ≤ length days → choice days .days ≡ days
-  unfolding choice
-  choice-days h = simp (le-ltb (length days) 4 h)
 
 -- the first four places
 four-places : (days : List ℕ) → 4 ≤ length days → take 4 days ≡ getD days 0 0 ∷ getD days 1 0 ∷ getD days 2 0 ∷ getD days 3 0 ∷ []

@@ -13,6 +13,7 @@ use mir.Facts.{and-yes, yes-and}
 use Rattle.numbers.specs.Lists.{gather}
 use Rattle.numbers.specs.PointNumbers.{below}
 use Rattle.numbers.proofs.Refusals.{testOf, untold, clear-zero}
+use Rattle.numbers.proofs.Tests.{no-false}
 use Rattle.heads.specs.Heads.{headOf}
 use Rattle.points.specs.Points.{Point, kindOf, numberOf, lacksDays}
 use Rattle.ledger.specs.States.{opened, taken}
@@ -74,10 +75,6 @@ ShowsDays head marks p = T (not (lacksDays head marks (kindOf (p .tag)) (p .valu
 abbrev writtenPoints : List Point → List ℕ
 writtenPoints points = gather (λ p. written (p .tag) (p .value)) points
 
-is-false : (b : Bool) → T (not b) → b ≡ false
-is-false true t = absurd t
-is-false false t = refl
-
 writing-untold : (p : Point) → Takes p → (n : ℕ) → testOf n (pointWritingTests (p .tag) (p .value) (roomFor p)) ≡ false
 unfolding pointWritingRefusal
 writing-untold p e = untold (pointWritingTests (p .tag) (p .value) (roomFor p)) tt e
@@ -90,7 +87,7 @@ module _ (state : State) (s : Sound state) (p : Point) (takes : Takes p) (shows 
   point-back room above =
       let c = writing-untold p takes in
       clear-zero (pointTests (state .head) (state .marks) (state .points) (state .last) (p .tag) (p .value) 6)
-      (lt-leb _ _ room, (c 11, (c 12, (refl, (c 14, (above, (c 16, (c 17, (is-false _ shows, tt)))))))))
+      (lt-leb _ _ room, (c 11, (c 12, (refl, (c 14, (above, (c 16, (c 17, (no-false _ shows, tt)))))))))
 
 points-back : (points : List Point) (state : State) → Sound state → state .points + length points ≡ state .head .count
     → T (follows (state .points) (state .last) points) → Each Takes points → Each (ShowsDays (state .head) (state .marks)) points

@@ -1,5 +1,5 @@
 -- What an accepted adding shows, and how large its slot results are. Assumes nothing.
-use mathlib.Core.Path.{_≡_, refl}
+use mathlib.Core.Path.{_≡_}
 use mathlib.Core.Bool.{false, not, _&&_}
 use mathlib.Core.List.{List}
 use Prim.Native.Nat.{ℕ, _<_, _≤_}
@@ -7,17 +7,16 @@ use lib.Dec.{T, ltb, eqb}
 use lib.IntN.{pos, natAbs}
 use lib.ListN.{length, getD, length-map}
 use mir.Facts.{eqb-yes}
-use borrow.Author.Tests.{ltb-false, leb-false}
+use borrow.Author.Tests.{leb-false}
 use Rattle.numbers.specs.Lists.{any}
 use Rattle.numbers.specs.PointNumbers.{isNumber, below}
-use Rattle.numbers.proofs.Filling.{any-none}
 use Rattle.numbers.proofs.Refusals.{untold}
-use Rattle.numbers.proofs.Tests.{no-false, noneOf, any-map}
+use Rattle.numbers.proofs.Tests.{noneOf, any-map}
 use Rattle.heads.specs.Limits.{mostResult}
 use Rattle.points.specs.Points.{Kind, kindOf, isUnknown, sizeOf, numberOf, isUnfit, hasLarge, lacksDays, quotients, results}
 use Rattle.heads.specs.declared.Head.{Head}
 use Rattle.heads.proofs.Opening.{passed, Opens}
-use Rattle.results.proofs.Bounds.{isBeyond, small-by, six-by}
+use Rattle.results.proofs.Bounds.{isBeyond, none-beyond, small-by, six-by}
 use Rattle.ledger.specs.Operations.{pointTests, pointRefusal}
 
 pub record Takes (h : Head) (marks : List ℕ) (points : ℕ) (last : List ℕ) (kind : Kind) (value : List ℕ) (places : ℕ) : Type 0 where
@@ -62,4 +61,4 @@ module _ {h : Head} {marks : List ℕ} {points : ℕ} {last : List ℕ} {kind : 
     results-small = rw any-map (small-by h marks o kind value (t .fit) (t .small))
 
     pub result-small : (j : ℕ) → natAbs (getD (results h marks kind value) j (pos 0)) ≤ mostResult
-    result-small j = ltb-false _ _ (any-none (isBeyond mostResult) (pos 0) refl (results h marks kind value) (no-false _ results-small) j)
+    result-small = none-beyond mostResult (results h marks kind value) results-small

@@ -141,7 +141,3 @@ pub ≤ℤ-antisym : (x y : ℤ) → x ≤ℤ y → y ≤ℤ x → x ≡ y
 -- the size of a sum
 pub natAbs-+ℤ : (k l : ℕ) (x y : ℤ) → natAbs x ≤ k → natAbs y ≤ l → natAbs (x +ℤ y) ≤ k + l
 natAbs-+ℤ k l = by⊖ _ λ a a′. by⊖ _ λ b b′. simp ⊖s (omega arith)
-
--- a sum of small numbers is in the range of a signed width
-pub mag-+ℤ : (H k l : ℕ) (x y : ℤ) → natAbs x ≤ k → natAbs y ≤ l → k + l < H → mag (x +ℤ y) < H
-mag-+ℤ H k l = by⊖ _ λ a a′. by⊖ _ λ b b′. simp ⊖s (omega arith)

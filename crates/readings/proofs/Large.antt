@@ -5,10 +5,10 @@ use mathlib.Core.List.{List}
 use Prim.Native.Nat.{ℕ, zero, suc, _+_, _-_, _*_, _<_, _≤_}
 use native.Mathlib.Nat.{zero-add, add-zero, add-assoc, suc-add}
 use native.Mathlib.Omega.{arith}
-use lib.Dec.{ltb, eqb}
+use lib.Dec.{ltb}
 use lib.ListN.{drop}
 use lib.Seq.{drop-drop, getD-drop}
-use borrow.Author.Tests.{ne-eqb, lt-ltb, le-ltb, ltb-true, ltb-false}
+use borrow.Author.Tests.{lt-ltb, le-ltb, ltb-true, ltb-false}
 use Rattle.numbers.specs.Words.{word32}
 use Rattle.readings.specs.Readings.{mostReading, firstLarge}
 
@@ -113,9 +113,6 @@ module _ (readings : List ℕ) where
       rw k at (in-limit n (i + 1) j (fits i n e .1) (omega arith))
 
   -- one that is too large among n readings
-  pub one-large : (n i j : ℕ) → j < n → mostReading < word32 readings ((i + j) * 4) → eqb (from i n) n ≡ false
-  one-large n i j h l = ne-eqb (from i n) n (λ e. omega (arith, in-limit n i j e h))
-
   -- WHAT NO TOO LARGE READING MEANS: each is within the limit.
   pub none-large : (n i : ℕ) → firstLarge readings n ≡ n → i < n → word32 readings (i * 4) ≤ mostReading
   none-large n i e h = rw zero-add at (in-limit n 0 i e h)

@@ -7,11 +7,11 @@ use native.Mathlib.Nat.{le-trans, le-antisymm}
 use native.Mathlib.Omega.{arith}
 use lib.Dec.{T, ltb}
 use lib.IntN.{ℤ, pos, natAbs, _-ℤ_}
-use lib.ListN.{length}
+use lib.ListN.{length, getD}
 use mir.Facts.{no-ltb}
-use borrow.Author.Tests.{ltb-false}
+use borrow.Author.Tests.{ltb-false, le-ltb}
 use Rattle.numbers.specs.Lists.{any}
-use Rattle.numbers.proofs.Filling.{run-length}
+use Rattle.numbers.proofs.Filling.{run-length, any-none}
 use Rattle.numbers.proofs.Differences.{⊖s}
 use Rattle.numbers.proofs.Floors.{natAbs-floor, slot-bound}
 use Rattle.readings.specs.Readings.{mostReading, firstLarge, daySums, earlierUse}
@@ -24,7 +24,7 @@ use Rattle.heads.specs.Heads.{testDay}
 use Rattle.heads.proofs.Opening.{Opens}
 use Rattle.points.specs.Points.{Kind, consumer, generator, unknown, isUnknown, isUnfit, hasLarge, readingsOf, readingCount, lossOf, baselineOf, consumerQuotient, generatorQuotient, quotients, rounded}
 use Rattle.heads.specs.declared.Head.{Head}
-use Rattle.numbers.proofs.Tests.{noneOf, none-run}
+use Rattle.numbers.proofs.Tests.{no-false, noneOf, none-run}
 
 -- 17 was not told
 pub all-tested : (kind : Kind) (value : List ℕ) → hasLarge kind value ≡ false → firstLarge (readingsOf kind value) (readingCount kind) ≡ readingCount kind
@@ -38,6 +38,10 @@ all-tested kind value e =
 -- beyond a limit on either side of zero
 abbrev pub isBeyond : ℕ → ℤ → Bool
 isBeyond most z = ltb most (natAbs z)
+
+-- none of some numbers is beyond it
+pub none-beyond : (most : ℕ) (zs : List ℤ) → T (noneOf (isBeyond most) zs) → (i : ℕ) → natAbs (getD zs i (pos 0)) ≤ most
+none-beyond most zs t i = ltb-false _ _ (any-none (isBeyond most) (pos 0) (le-ltb most 0 (omega arith)) zs (no-false _ t) i)
 
 baseline-small : (readings : List ℕ) → firstLarge readings 1488 ≡ 1488 → (test : ℕ) (marks : List ℕ) (s j : ℕ) → s ≤ 34
     → baseline (daySums readings (chosenDays test marks readings s) s) (earlierUse readings s) j ≤ 48 * mostReading
