@@ -14,14 +14,15 @@ use borrow.Author.Needs.{sfits-of}
 use lib.ListN.{length, getD, length-append, List·getD-append}
 use lib.Seq.{getD-append-add}
 use Rattle.numbers.specs.Lists.{gather}
-use Rattle.numbers.specs.Integers.{sumℤ}
-use Rattle.numbers.specs.Words.{bytesOf, twosComplement}
-use Rattle.ledger.specs.Figures.{settledOf, shortfallOf, expectedOf, figuresOf}
+use Rattle.integers.specs.Integers.{sumℤ}
+use Rattle.numbers.specs.Words.{bytesOf}
+use Rattle.integers.specs.Integers.{twosComplement}
+use Rattle.figures.specs.Figures.{settledOf, shortfallOf, expectedOf, figuresOf}
 use Rattle.ledger.specs.Operations.{closeOf}
 use Rattle.ledger.specs.declared.State.{State}
-use Rattle.ledger.proofs.FigureSteps.{shortfall-above, shortfall-below}
+use Rattle.figures.proofs.FigureSteps.{shortfall-above, shortfall-below}
 use Rattle.ledger.proofs.Sound.{close-refusal, close-good}
-use Rattle.numbers.proofs.Machine.{back}
+use Rattle.integers.proofs.Machine.{back}
 use Rattle.book.specs.Results.{SmallWords, wordBytes}
 
 -- a signed word reads back from its bits as it was

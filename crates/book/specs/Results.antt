@@ -3,8 +3,9 @@ use mathlib.Core.List.{List}
 use Prim.Native.Nat.{ℕ, _^_, _<_}
 use lib.IntN.{ℤ}
 use Rattle.numbers.specs.Lists.{gather}
-use Rattle.numbers.specs.Words.{bytesOf, twosComplement}
-use Rattle.ledger.specs.declared.Figures.{Figures}
+use Rattle.numbers.specs.Words.{bytesOf}
+use Rattle.integers.specs.Integers.{twosComplement}
+use Rattle.figures.specs.declared.Figures.{Figures}
 
 -- figures without a sign that fit a signed word
 pub record SmallWords (f : Figures) : Type 0 where

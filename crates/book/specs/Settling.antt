@@ -6,10 +6,11 @@ use lib.Dec.{eqb}
 use lib.IntN.{ℤ, pos}
 use lib.ListN.{length}
 use Rattle.numbers.specs.Lists.{gather}
-use Rattle.numbers.specs.Words.{bytesOf, twosComplement}
-use Rattle.ledger.specs.Figures.{noFigures}
+use Rattle.numbers.specs.Words.{bytesOf}
+use Rattle.integers.specs.Integers.{twosComplement}
+use Rattle.figures.specs.Figures.{noFigures}
 use Rattle.ledger.specs.Operations.{closeOf}
-use Rattle.ledger.specs.declared.Figures.{Figures}
+use Rattle.figures.specs.declared.Figures.{Figures}
 use Rattle.ledger.specs.declared.Closed.{Closed}
 use Rattle.book.specs.Reading.{Reading, refused, good, Book, readBook}
 

@@ -13,7 +13,7 @@ use crate::Ending;
 use fields::Due;
 use fields::Field;
 use fields::cutting;
-use ledger::Figures;
+use figures::Figures;
 use ledger::State;
 
 // A refused reading.
@@ -123,7 +123,7 @@ fn result_byte(words: [i64; 8], i: usize) -> u8
     requires { ⌜ i < 64 ⌝ }
     ensures { λ r. ⌜ r ≡ getD (wordBytes words) i 0 ⌝ }
 {
-    let bytes = numbers::word_bytes(words[i / 8]);
+    let bytes = integers::word_bytes(words[i / 8]);
     bytes[i % 8]
 }
 

@@ -1,6 +1,6 @@
 // The text of an answer. Each function tells whether all that it wrote was taken.
 use crate::faults;
-use ledger::Figures;
+use figures::Figures;
 use ledger::State;
 use libc::STDOUT_FILENO;
 
@@ -23,7 +23,7 @@ pub fn number(name: &[u8], value: u64) -> bool {
 
 // A name and a signed number.
 fn signed(name: &[u8], value: i64) -> bool {
-    let size = numbers::size_of(value);
+    let size = integers::size_of(value);
     if value < 0 {
         return put(name) & number(b"-", size);
     }

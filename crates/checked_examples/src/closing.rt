@@ -1,7 +1,7 @@
 // Closings of a list of one generator: L.
 use crate::handed;
 use crate::text;
-use ledger::Figures;
+use figures::Figures;
 use ledger::State;
 
 fn close(state: State, value: &[u8]) -> Figures {

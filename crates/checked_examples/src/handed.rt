@@ -60,7 +60,7 @@ fn put_byte(value: &mut [u8], at: usize, byte: u8)
 fn put_word(value: &mut [u8], at: usize, word: u32)
     requires { ⌜ at + 4 ≤ length (now value) ⌝ }
 {
-    let bytes = numbers::word_bytes(word as i64);
+    let bytes = integers::word_bytes(word as i64);
     put_byte(value, at, bytes[4]);
     put_byte(value, at + 1, bytes[5]);
     put_byte(value, at + 2, bytes[6]);

@@ -13,7 +13,7 @@ pub fn signed(value: i64) {
     if value < 0 {
         put(b"-");
     }
-    number(numbers::size_of(value));
+    number(integers::size_of(value));
 }
 
 // 0 is accepted.

@@ -1,6 +1,4 @@
-pub mod FigureSteps
 pub mod EarlyRows
-pub mod SlotTotals
 pub mod Taking
 pub mod Sound
 pub mod TotalBounds

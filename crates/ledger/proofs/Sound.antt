@@ -13,13 +13,14 @@ use borrow.Author.Tests.{eqb-true, eq-eqb, ne-eqb, not-false}
 use Rattle.numbers.specs.Lists.{any}
 use Rattle.numbers.specs.Refusals.{firstOf}
 use Rattle.numbers.specs.PointNumbers.{isNumber}
-use Rattle.numbers.proofs.Differences.{natAbs-+ℤ}
+use Rattle.integers.proofs.Differences.{natAbs-+ℤ}
 use Rattle.calendar.specs.Dates.{isDate}
 use Rattle.heads.specs.Limits.{mostResult}
 use Rattle.heads.specs.Heads.{headOf, contentRefusal, openingRefusal}
 use Rattle.points.specs.Points.{numberOf}
-use Rattle.ledger.specs.States.{opened, noState, isUnsound, plus, taken}
-use Rattle.ledger.specs.Figures.{figuresOf, noFigures}
+use Rattle.figures.specs.SlotTotals.{plus}
+use Rattle.ledger.specs.States.{opened, noState, isUnsound, taken}
+use Rattle.figures.specs.Figures.{figuresOf, noFigures}
 use Rattle.ledger.specs.Operations.{openOf, pointTests, pointRefusal, addingRefusal, resultsOf, addOf, closingRefusal, closeOf}
 use Rattle.heads.specs.declared.Head.{Head}
 use Rattle.ledger.specs.declared.State.{State}

@@ -5,7 +5,7 @@ use Prim.Native.Nat.{ℕ}
 use lib.Dec.{eqb}
 use Rattle.ledger.specs.Operations.{openOf, addOf, closeOf}
 use Rattle.ledger.specs.declared.State.{State}
-use Rattle.ledger.specs.declared.Figures.{Figures}
+use Rattle.figures.specs.declared.Figures.{Figures}
 
 -- A call after the opening. An adding is given a tag, a value and a number of lent places.
 pub data Call : Type 0 where

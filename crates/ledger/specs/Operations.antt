@@ -10,7 +10,7 @@ use Rattle.numbers.specs.PointNumbers.{isNumber, below}
 use Rattle.heads.specs.Heads.{headOf, openingRefusal}
 use Rattle.points.specs.Points.{kindOf, isUnknown, sizeOf, numberOf, isUnfit, hasLarge, lacksDays, results}
 use Rattle.ledger.specs.States.{opened, noState, isUnsound, taken}
-use Rattle.ledger.specs.Figures.{figuresOf, noFigures}
+use Rattle.figures.specs.Figures.{figuresOf, noFigures}
 use Rattle.heads.specs.declared.Head.{Head}
 use Rattle.ledger.specs.declared.State.{State}
 use Rattle.ledger.specs.declared.Opened.{Opened}

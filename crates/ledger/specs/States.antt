@@ -3,12 +3,13 @@ use mathlib.Core.Bool.{Bool, not, _&&_, _||_}
 use mathlib.Core.List.{List, [], _∷_}
 use Prim.Native.Nat.{ℕ, _+_, _*_}
 use lib.Dec.{ltb, eqb}
-use lib.IntN.{ℤ, pos, natAbs, _+ℤ_}
+use lib.IntN.{ℤ, pos, natAbs}
 use lib.ListN.{replicate}
 use Rattle.numbers.specs.Lists.{any}
 use Rattle.numbers.specs.PointNumbers.{isNumber}
 use Rattle.heads.specs.Limits.{mostResult}
 use Rattle.heads.specs.Heads.{contentRefusal}
+use Rattle.figures.specs.SlotTotals.{plus}
 use Rattle.heads.specs.declared.Head.{Head}
 use Rattle.ledger.specs.declared.State.{State}
 
@@ -31,12 +32,6 @@ isUnsound state =
     || ltb (state .head .count) (state .points)
     || any (λ total. ltb (mostResult * state .points) (natAbs total)) (state .totals)
     || ltb 0 (state .points) && not (isNumber (state .last))
-
--- slot by slot
-unfoldable pub plus : List ℤ → List ℤ → List ℤ
-plus [] ys = []
-plus (x ∷ xs) [] = []
-plus (x ∷ xs) (y ∷ ys) = (x +ℤ y) ∷ plus xs ys
 
 -- 'it adds the results to the state's six slot totals, raises points taken by one and keeps the number'
 unfoldable pub taken : State → List ℤ → List ℕ → State

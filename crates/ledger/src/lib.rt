@@ -3,10 +3,9 @@ ghost use lib.ListN.{length};
 ghost use Rattle.ledger.specs.Operations.{openOf, addOf, placesOf, closeOf};
 
 mod adding;
-mod closing;
 pub mod states;
-mod totals;
 
+use figures::Figures;
 use heads::Head;
 use heads::refusals;
 
@@ -21,18 +20,6 @@ pub struct State {
     pub totals: [i64; 6],
     // the last point number
     pub last: [u8; 22],
-}
-
-// The closing figures: total in Wh, the others in kW.
-pub struct Figures {
-    pub total: i64,
-    pub settled: i64,
-    pub shortfall: u64,
-    pub expected: u64,
-    pub kept: u64,
-    pub surplus: u64,
-    pub points: u32,
-    pub bid: bool,
 }
 
 // The answer of opening; refusal 0 is accepted.
@@ -75,7 +62,7 @@ pub fn close(state: State) -> Closed
     ensures { λ r. ⌜ r ≡ closeOf state ⌝ }
 {
     if states::is_unsound(state) {
-        let figures = closing::no_figures();
+        let figures = figures::closing::no_figures();
         return Closed {
             refusal: refusals::UNSOUND_STATE,
             figures,
@@ -84,14 +71,14 @@ pub fn close(state: State) -> Closed
     let head = state.head;
     let points = state.points;
     if points < head.count {
-        let figures = closing::no_figures();
+        let figures = figures::closing::no_figures();
         return Closed {
             refusal: refusals::COUNT_NOT_REACHED,
             figures,
         };
     }
     let totals = state.totals;
-    let figures = closing::figures_of(head.contract, totals, points);
+    let figures = figures::closing::figures_of(head.contract, totals, points);
     Closed {
         refusal: refusals::ACCEPTED,
         figures,
@@ -117,9 +104,9 @@ pub fn add(state: State, tag: u8, value: &[u8], places: &mut [i64]) -> Added
         };
     }
     let found = answer.found;
-    totals::put(places, found);
+    figures::totals::put(places, found);
     let before = state.totals;
-    let sums = totals::add_totals(before, found);
+    let sums = figures::totals::add_totals(before, found);
     let number = points::number_of(value);
     let mut next = state;
     next.points = state.points + 1;

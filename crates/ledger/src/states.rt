@@ -44,20 +44,6 @@ pub fn no_state() -> State
     }
 }
 
-// Whether one of the totals is beyond a limit, on either side of zero.
-fn has_beyond(totals: [i64; 6], most: u64) -> bool
-    ensures { λ r. ⌜ r ≡ any (λ total. ltb most (natAbs total)) totals ⌝ }
-{
-    let mut i: usize = 0;
-    while i < 6 {
-        if most < numbers::size_of(totals[i]) {
-            return true;
-        }
-        i += 1;
-    }
-    false
-}
-
 // The size that one slot result may have.
 const MOST_RESULT: u64 = 4000000000;
 
@@ -75,7 +61,7 @@ pub fn is_unsound(state: State) -> bool
         return true;
     }
     let totals = state.totals;
-    if has_beyond(totals, MOST_RESULT * (points as u64)) {
+    if figures::totals::has_beyond(totals, MOST_RESULT * (points as u64)) {
         return true;
     }
     if points == 0 {

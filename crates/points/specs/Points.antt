@@ -6,7 +6,7 @@ use lib.Dec.{leb, ltb, eqb}
 use lib.IntN.{ℤ, pos, _-ℤ_, _*ℤ_}
 use lib.ListN.{length, getD, take, drop}
 use Rattle.numbers.specs.Lists.{run}
-use Rattle.numbers.specs.Integers.{floorDiv}
+use Rattle.integers.specs.Integers.{floorDiv}
 use Rattle.numbers.specs.Words.{word32}
 use Rattle.readings.specs.Readings.{reading, firstLarge, daySums, earlierUse}
 use Rattle.baseline.specs.Baseline.{chosenDays, baseline}

@@ -12,8 +12,8 @@ use mir.Facts.{no-ltb}
 use borrow.Author.Tests.{ltb-false, le-ltb}
 use Rattle.numbers.specs.Lists.{any}
 use Rattle.numbers.proofs.Filling.{run-length, any-none}
-use Rattle.numbers.proofs.Differences.{⊖s}
-use Rattle.numbers.proofs.Floors.{natAbs-floor, slot-bound}
+use Rattle.integers.proofs.Differences.{⊖s}
+use Rattle.integers.proofs.Floors.{natAbs-floor, slot-bound}
 use Rattle.readings.specs.Readings.{mostReading, firstLarge, daySums, earlierUse}
 use Rattle.baseline.specs.Baseline.{chosenDays, baseline}
 use Rattle.readings.proofs.Large.{none-large, first-bound}

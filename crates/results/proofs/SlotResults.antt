@@ -8,9 +8,9 @@ use lib.IntN.{ℤ, pos, negsuc, _-ℤ_, _*ℤ_}
 use lib.ListN.{drop}
 use lib.Seq.{getD-drop}
 use Rattle.numbers.specs.Lists.{run}
-use Rattle.numbers.specs.Integers.{floorDiv}
+use Rattle.integers.specs.Integers.{floorDiv}
 use Rattle.numbers.specs.Words.{word32}
-use Rattle.numbers.proofs.Differences.{⊖s}
+use Rattle.integers.proofs.Differences.{⊖s}
 use Rattle.points.specs.Points.{generator, baselineOf, generatorQuotient, quotients, rounded, results}
 use Rattle.heads.specs.declared.Head.{Head}
 

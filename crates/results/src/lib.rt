@@ -25,8 +25,8 @@ fn consumer_result(loss: u16, base: u64, used: u32) -> i64
     requires { ⌜ (loss ≤ 5000) × (base ≤ 48000000000) × (used ≤ 1000000000) ⌝ }
     ensures { λ r. ⌜ r ≡ rounded (consumerQuotient loss base used) ⌝ }
 {
-    let above = numbers::minus(10000 * base, 240000 * (used as u64));
-    numbers::floor_div(above, 24 * (10000 - (loss as u32)))
+    let above = integers::minus(10000 * base, 240000 * (used as u64));
+    integers::floor_div(above, 24 * (10000 - (loss as u32)))
 }
 
 // One slot of a generator.
@@ -34,7 +34,7 @@ fn generator_result(baseline: u32, metered: u32) -> i64
     requires { ⌜ baseline ≤ mostBaseline ⌝ }
     ensures { λ r. ⌜ r ≡ rounded (generatorQuotient baseline metered) ⌝ }
 {
-    numbers::minus(metered as u64, 500 * (baseline as u64))
+    integers::minus(metered as u64, 500 * (baseline as u64))
 }
 
 // The six results of a consumer, on its four days.

@@ -2,7 +2,7 @@
 ghost use Prim.Native.Nat.{_≤_};
 ghost use lib.ListN.{length};
 use feeding::Progress;
-use ledger::Figures;
+use figures::Figures;
 use ledger::State;
 use libc::STDERR_FILENO;
 use libc::STDIN_FILENO;
@@ -62,7 +62,7 @@ fn put_number(ok: bool, number: u64) -> bool {
 }
 
 fn put_signed(ok: bool, number: i64) -> bool {
-    let size = numbers::size_of(number);
+    let size = integers::size_of(number);
     if number < 0 {
         return put_number(put(ok, b"-"), size);
     }

@@ -11,20 +11,21 @@ use lib.Signed.{leZ}
 use lib.ListN.{length, replicate, length-append}
 use borrow.Author.Tests.{ne-eqb}
 use Rattle.numbers.specs.Lists.{any, gather}
-use Rattle.numbers.specs.Integers.{divides, sumℤ}
+use Rattle.integers.specs.Integers.{divides, sumℤ}
 use Rattle.heads.specs.Heads.{headOf, openingRefusal}
 use Rattle.points.specs.Points.{Point, kindOf, numberOf, quotients, results}
-use Rattle.ledger.specs.States.{noState, plus, taken}
-use Rattle.ledger.specs.Figures.{figuresOf}
+use Rattle.figures.specs.SlotTotals.{plus}
+use Rattle.ledger.specs.States.{noState, taken}
+use Rattle.figures.specs.Figures.{figuresOf}
 use Rattle.ledger.specs.Operations.{pointRefusal, addingRefusal, closingRefusal, closeOf}
 use Rattle.tembuyas.specs.Account.{Account, product, partsOfkW, partsOfWatt, partsOfWh, exactly, exactSum, exactShortfall, opening, Said, said, saysOf, allRefused, account}
 use Rattle.tembuyas.specs.Demand3.{takenBefore, takenAll, allQuotients, roundedTotal, noRemainder, noLoss, keepsFractions, Accurate, Agree, both-refuse, both-accept, both-close, AgreeAll, end, next, Demand3}
 use Rattle.heads.specs.declared.Head.{Head}
 use Rattle.ledger.specs.declared.State.{State}
-use Rattle.ledger.specs.declared.Figures.{Figures}
+use Rattle.figures.specs.declared.Figures.{Figures}
 use Rattle.numbers.proofs.Tests.{every, none-append, gather-append}
 use Rattle.tembuyas.proofs.Sums.{sum-append, taken-total}
-use Rattle.ledger.proofs.SlotTotals.{plus-length}
+use Rattle.figures.proofs.SlotTotals.{plus-length}
 use Rattle.tembuyas.proofs.Rounding.{whole, compared}
 use Rattle.heads.proofs.Opening.{opens}
 use Rattle.ledger.proofs.Taking.{takes, six-quotients, six-results}

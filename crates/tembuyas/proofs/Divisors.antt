@@ -11,9 +11,9 @@ use lib.ListN.{getD}
 use mir.Facts.{leb-yes}
 use Rattle.numbers.specs.Lists.{any, gather}
 use Rattle.numbers.specs.Words.{word32}
-use Rattle.numbers.specs.Integers.{divides}
+use Rattle.integers.specs.Integers.{divides}
 use Rattle.numbers.proofs.Filling.{any-append}
-use Rattle.numbers.proofs.Floors.{divides-one}
+use Rattle.integers.proofs.Floors.{divides-one}
 use Rattle.points.specs.Points.{Point, Kind, consumer, generator, unknown, kindOf, classOf, isUnfit, baselineOf, readingsOf, generatorQuotient, quotients}
 use Rattle.tembuyas.specs.Account.{partsOfWh}
 use Rattle.tembuyas.specs.Demand3.{divisionsBy, divisions, allQuotients}

@@ -4,7 +4,7 @@ use mathlib.Core.List.{[], _∷_}
 use lib.IntN.{pos, negℤ}
 use lib.ListN.{replicate}
 use Rattle.numbers.specs.Lists.{run, sum, filter, any, gather}
-use Rattle.numbers.specs.Integers.{sumℤ}
+use Rattle.integers.specs.Integers.{sumℤ}
 use Rattle.numbers.specs.Words.{bytesOf}
 use Rattle.numbers.specs.PointNumbers.{digits, same, isNumber, below}
 use Rattle.calendar.specs.Dates.{isDate, dayCount}
@@ -13,7 +13,7 @@ use Rattle.baseline.specs.Choosing.{walk, lowest, used, chosen}
 use Rattle.heads.specs.Heads.{headOf, contentRefusal, openingRefusal}
 use Rattle.points.specs.Points.{quotients}
 use Rattle.ledger.specs.States.{isUnsound}
-use Rattle.ledger.specs.Figures.{figuresOf}
+use Rattle.figures.specs.Figures.{figuresOf}
 use Rattle.ledger.specs.Operations.{openOf, addingRefusal, addOf, placesOf}
 use Rattle.tembuyas.specs.Examples.{CheckedExamples, Example, examples, highVoltage, placesWith, stateWith, plain, six}
 

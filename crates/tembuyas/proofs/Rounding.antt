@@ -15,11 +15,11 @@ use lib.Signed.{_≤ℤ_, leZ, leZ-yes}
 use lib.ListN.{length}
 use mir.Facts.{eqb-yes}
 use Rattle.numbers.specs.Lists.{any}
-use Rattle.numbers.specs.Integers.{floorDiv, divides, orZero, sumℤ}
-use Rattle.numbers.proofs.Differences.{by⊖, ⊖s}
-use Rattle.numbers.proofs.Floors.{rest, rest-<, rest-is, divides-rest}
+use Rattle.integers.specs.Integers.{floorDiv, divides, orZero, sumℤ}
+use Rattle.integers.proofs.Differences.{by⊖, ⊖s}
+use Rattle.integers.proofs.Floors.{rest, rest-<, rest-is, divides-rest}
 use Rattle.points.specs.Points.{Quotient, rounded}
-use Rattle.ledger.specs.Figures.{settledOf, shortfallOf}
+use Rattle.figures.specs.Figures.{settledOf, shortfallOf}
 use Rattle.numbers.proofs.Tests.{every, every-cons}
 
 -- a quotient is whole

@@ -6,7 +6,7 @@ use Prim.Native.Nat.{ℕ, _+_, _*_}
 use lib.IntN.{pos}
 use lib.ListN.{take, replicate}
 use Rattle.numbers.specs.Lists.{run, sum, filter, any, gather}
-use Rattle.numbers.specs.Integers.{sumℤ}
+use Rattle.integers.specs.Integers.{sumℤ}
 use Rattle.numbers.specs.Words.{bytesOf}
 use Rattle.numbers.specs.PointNumbers.{digits, same, isNumber, below}
 use Rattle.calendar.specs.Dates.{isDate, dayCount}
@@ -14,8 +14,9 @@ use Rattle.readings.specs.Readings.{firstLarge, windowSums, slotSums, daySums, 
 use Rattle.baseline.specs.Choosing.{walk, lowest, used, chosen}
 use Rattle.heads.specs.Heads.{headOf, contentRefusal, openingRefusal}
 use Rattle.points.specs.Points.{quotients}
-use Rattle.ledger.specs.States.{isUnsound, plus, taken}
-use Rattle.ledger.specs.Figures.{figuresOf}
+use Rattle.figures.specs.SlotTotals.{plus}
+use Rattle.ledger.specs.States.{isUnsound, taken}
+use Rattle.figures.specs.Figures.{figuresOf}
 use Rattle.ledger.specs.Operations.{openOf, pointRefusal, addingRefusal, addOf, closingRefusal, closeOf}
 use Rattle.tembuyas.specs.Account.{opening, Said, saysOf, account, partsOfkW}
 use Rattle.tembuyas.specs.Examples.{head, highVoltage}

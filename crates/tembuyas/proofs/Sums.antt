@@ -5,9 +5,10 @@ use Prim.Native.Nat.{ℕ}
 use native.Mathlib.Omega.{arith}
 use lib.IntN.{ℤ, _+ℤ_, +ℤ-idl, +ℤ-assoc}
 use lib.ListN.{length}
-use Rattle.numbers.specs.Integers.{sumℤ}
-use Rattle.numbers.proofs.Differences.{by⊖, ⊖s}
-use Rattle.ledger.specs.States.{plus, taken}
+use Rattle.integers.specs.Integers.{sumℤ}
+use Rattle.integers.proofs.Differences.{by⊖, ⊖s}
+use Rattle.figures.specs.SlotTotals.{plus}
+use Rattle.ledger.specs.States.{taken}
 use Rattle.ledger.specs.declared.State.{State}
 
 pub sum-append : {A : Type 0} (f : A → ℤ) (xs ys : List A) → sumℤ (map f (xs ++ ys)) ≡ sumℤ (map f xs) +ℤ sumℤ (map f ys)

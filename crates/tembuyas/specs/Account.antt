@@ -7,7 +7,7 @@ use Prim.Native.Nat.{ℕ, _+_, _*_, _-_, _/_}
 use lib.Dec.{ltb, eqb}
 use lib.IntN.{ℤ, pos, _+ℤ_, _-ℤ_, _*ℤ_}
 use lib.ListN.{getD, replicate}
-use Rattle.numbers.specs.Integers.{orZero, sumℤ}
+use Rattle.integers.specs.Integers.{orZero, sumℤ}
 use Rattle.heads.specs.Heads.{headOf, openingRefusal}
 use Rattle.points.specs.Points.{Quotient, kindOf, numberOf, quotients}
 use Rattle.ledger.specs.Operations.{pointRefusal}

@@ -11,7 +11,7 @@ use Rattle.numbers.specs.Words.{bytesOf}
 use Rattle.calendar.specs.Dates.{dayCount}
 use Rattle.calendar.specs.Eligible.{ofDay, eligibleDays}
 use Rattle.baseline.specs.Choosing.{standing, chosen}
-use Rattle.ledger.specs.Figures.{figuresOf}
+use Rattle.figures.specs.Figures.{figuresOf}
 use Rattle.ledger.specs.Operations.{openOf, addOf, placesOf}
 use Rattle.ledger.specs.declared.State.{State}
 

@@ -1,7 +1,7 @@
 use mathlib.Core.Path.{ap, _∙_}
 use Prim.Native.Nat.{_*_, _-_}
 use lib.IntN.{ℤ}
-use Rattle.numbers.specs.Integers.{floorDiv}
+use Rattle.integers.specs.Integers.{floorDiv}
 use Rattle.results.proofs.SlotResults.{scaled}
 use mir.Facts.{toZ-ofZ}
 use borrow.Author.Needs.{needs, sfits-of}

@@ -3,7 +3,8 @@ use Prim.Native.Nat.{_/_, _%_}
 use native.Mathlib.Omega.{arith}
 use lib.IntN.{ℤ, pos}
 use lib.ListN.{getD}
-use Rattle.numbers.specs.Words.{bytesOf, twosComplement}
+use Rattle.numbers.specs.Words.{bytesOf}
+use Rattle.integers.specs.Integers.{twosComplement}
 use Rattle.book.proofs.Results.{word-back, words-at}
 -- The word, then its byte.
 use borrow.Author.Needs.{needs}

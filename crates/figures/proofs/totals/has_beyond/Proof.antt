@@ -1,0 +1,72 @@
+-- The totals are passed from the front.
+use mathlib.Core.Path.{_≡_, refl, sym, _∙_}
+use Prim.Native.Nat.{_≤_, _-_}
+use native.Mathlib.Omega.{arith}
+use lib.Dec.{ltb}
+use lib.IntN.{pos, natAbs}
+use lib.ListN.{length, drop}
+use mir.Facts.{toZ-ofZ}
+use borrow.Author.Needs.{needs, sfits-of}
+use borrow.Author.Tests.{lt-ltb, le-ltb}
+use Rattle.numbers.specs.Lists.{any}
+use Rattle.numbers.proofs.Scanning.{any-here, any-next, any-end}
+use Rattle.figures.proofs.totals.has_beyond.Statement.{statement}
+use Rattle.figures.proofs.totals.has_beyond.Tie as tie
+
+abbrev Inv-loop : tie.InvT-loop
+Inv-loop most totals i₀ i = (i ≤ 6) × (length totals ≡ 6) × (any (λ total. ltb most (natAbs total)) totals ≡ any (λ total. ltb most (natAbs total)) (drop i totals))
+
+abbrev μ-loop : tie.MeasureT-loop
+μ-loop most totals i₀ i = 6 - i
+
+loop-holds : tie.Need-loop-holds Inv-loop μ-loop
+loop-holds c = (search needs, search needs, refl)
+
+mul-size-of : tie.Need-mul-size-of Inv-loop μ-loop
+mul-size-of c = search needs
+
+array-copy-out-size-of : tie.Need-array-copy-out-size-of Inv-loop μ-loop
+array-copy-out-size-of c = search needs
+
+size-of-requires : tie.Need-size-of-requires Inv-loop μ-loop
+size-of-requires c κs = search needs
+
+returns : tie.Need-returns Inv-loop μ-loop
+returns c =
+    let s = c .before .before .before .before .before in
+    let l = c .before .before .before .before .loop in
+    sym (l .inv .2 ∙ any-here _ (s .args .t1) (l .i) (pos 0) (omega arith) (lt-ltb _ _ (rw (c .before .size-of .ensures, toZ-ofZ (sfits-of (c .before .before .size-of-arg .given))) at (c .if1 .taken))))
+
+add-i : tie.Need-add-i Inv-loop μ-loop
+add-i c = search needs
+
+loop-less : tie.Need-loop-less Inv-loop μ-loop
+loop-less c = search needs
+
+loop-again : tie.Need-loop-again Inv-loop μ-loop
+loop-again c =
+    let s = c .before .before .before .before .before in
+    let l = c .before .before .before .before .loop in (
+      omega arith,
+      l .inv .1,
+      l .inv .2 ∙ any-next _ (s .args .t1) (l .i) (pos 0) (omega arith) (le-ltb _ _ (rw (c .before .size-of .ensures, toZ-ofZ (sfits-of (c .before .before .size-of-arg .given))) at (c .if1 .left))),
+    )
+
+returns-2 : tie.Need-returns-2 Inv-loop μ-loop
+returns-2 c = let l = c .before .loop in sym (l .inv .2 ∙ any-end _ (c .before .before .args .t1) (l .i) (omega arith))
+
+pub has-beyond-spec : {M : Type 1} → statement M
+has-beyond-spec =
+    tie.close
+    (tie.spec
+    Inv-loop
+    μ-loop
+    loop-holds
+    mul-size-of
+    array-copy-out-size-of
+    size-of-requires
+    returns
+    add-i
+    loop-less
+    loop-again
+    returns-2)

@@ -1,0 +1,66 @@
+-- The places are filled from the front.
+use mathlib.Core.Path.{_≡_, refl, ap, _∙_}
+use Prim.Native.Nat.{_≤_, _-_}
+use native.Mathlib.Omega.{arith}
+use lib.IntN.{pos}
+use lib.ListN.{length}
+use mir.Facts.{toZ-ofZ}
+use borrow.Author.Needs.{needs, sfits-of}
+use Rattle.numbers.proofs.Filling.{front, front-more, front-all, front-length}
+use Rattle.figures.proofs.totals.put.Statement.{statement}
+use Rattle.figures.proofs.totals.put.Tie as tie
+
+abbrev Inv-loop : tie.InvT-loop
+Inv-loop places₀ found i₀ places i = (i ≤ 6) × (length found ≡ 6) × (length places₀ ≡ 6) × (places ≡ front places₀ found i)
+
+abbrev μ-loop : tie.MeasureT-loop
+μ-loop places₀ found i₀ places i = 6 - i
+
+loop-holds : tie.Need-loop-holds Inv-loop μ-loop
+loop-holds c = (search needs, search needs, search needs, refl)
+
+mul-places : tie.Need-mul-places Inv-loop μ-loop
+mul-places c = search needs
+
+array-copy-out-places : tie.Need-array-copy-out-places Inv-loop μ-loop
+array-copy-out-places c = search needs
+
+mul-t10 : tie.Need-mul-t10 Inv-loop μ-loop
+mul-t10 c = search needs
+
+slice-set-from-places : tie.Need-slice-set-from-places Inv-loop μ-loop
+slice-set-from-places c = let l = c .before .before .loop in omega (arith, ap length (l .inv .3) ∙ front-length _ _ (l .i) (omega arith) (omega arith))
+
+add-i : tie.Need-add-i Inv-loop μ-loop
+add-i c = search needs
+
+loop-less : tie.Need-loop-less Inv-loop μ-loop
+loop-less c = search needs
+
+loop-again : tie.Need-loop-again Inv-loop μ-loop
+loop-again c =
+    let l = c .before .before .loop in
+    (omega arith, l .inv .1, l .inv .2, rw (toZ-ofZ (sfits-of (c .places .given)), l .inv .3) (front-more _ _ (l .i) (pos 0) (omega arith) (omega arith)))
+
+same-length : tie.Need-same-length Inv-loop μ-loop
+same-length c = let l = c .before .loop in ap length (l .inv .3) ∙ front-length _ _ (l .i) (omega arith) (omega arith)
+
+returns : tie.Need-returns Inv-loop μ-loop
+returns c = let l = c .before .loop in l .inv .3 ∙ front-all _ _ (l .i) (omega arith) (omega arith)
+
+pub put-spec : {M : Type 1} → statement M
+put-spec =
+    tie.close
+    (tie.spec
+    Inv-loop
+    μ-loop
+    loop-holds
+    mul-places
+    array-copy-out-places
+    mul-t10
+    slice-set-from-places
+    add-i
+    loop-less
+    loop-again
+    same-length
+    returns)

@@ -1,0 +1,2 @@
+pub mod SlotTotals
+pub mod Figures

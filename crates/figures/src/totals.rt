@@ -1,0 +1,49 @@
+// Slot totals and the lent places.
+ghost use mathlib.Core.Path.{_≡_};
+ghost use mathlib.Core.List.{List};
+ghost use Prim.Native.Nat.{ℕ, _<_, _+_};
+ghost use lib.IntN.{ℤ, pos, natAbs, _+ℤ_};
+ghost use lib.ListN.{length, getD};
+ghost use lib.Dec.{ltb};
+ghost use Rattle.numbers.specs.Lists.{any};
+ghost use Rattle.figures.specs.SlotTotals.{plus};
+
+// Slot by slot.
+pub fn add_totals(totals: [i64; 6], found: [i64; 6]) -> [i64; 6]
+    requires { ⌜ ((i : ℕ) → natAbs (getD totals i (pos 0)) + natAbs (getD found i (pos 0)) < 9223372036854775808) ⌝ }
+    ensures { λ r. ⌜ r ≡ plus totals found ⌝ }
+{
+    let mut sums = totals;
+    let mut i: usize = 0;
+    while i < 6 {
+        sums[i] = integers::add_bounded(totals[i], found[i]);
+        i += 1;
+    }
+    sums
+}
+
+// The six results into the lent places.
+pub fn put(places: &mut [i64], found: [i64; 6])
+    requires { ⌜ length (now places) ≡ 6 ⌝ }
+    ensures { λ _. ⌜ now (places .exit) ≡ found ⌝ }
+{
+    let mut i: usize = 0;
+    while i < 6 {
+        places[i] = found[i];
+        i += 1;
+    }
+}
+
+// Whether one of the totals is beyond a limit, on either side of zero.
+pub fn has_beyond(totals: [i64; 6], most: u64) -> bool
+    ensures { λ r. ⌜ r ≡ any (λ total. ltb most (natAbs total)) totals ⌝ }
+{
+    let mut i: usize = 0;
+    while i < 6 {
+        if most < integers::size_of(totals[i]) {
+            return true;
+        }
+        i += 1;
+    }
+    false
+}

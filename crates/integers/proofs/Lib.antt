@@ -1,0 +1,4 @@
+pub mod Differences
+pub mod Floors
+pub mod Machine
+pub mod Sums

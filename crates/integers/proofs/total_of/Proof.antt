@@ -1,0 +1,71 @@
+-- The invariant: the total so far and the numbers from place i on are the whole sum, and the total is small enough for one more.
+use mathlib.Core.Path.{_≡_, refl, sym, ap, _∙_}
+use Prim.Native.Nat.{_≤_, _+_, _-_, _*_}
+use native.Mathlib.Omega.{arith}
+use lib.IntN.{ℤ, pos, natAbs, _+ℤ_, +ℤ-idl}
+use lib.ListN.{length, getD, drop}
+use mir.Syntax.{w64}
+use mir.Val.{toZ}
+use borrow.Author.Needs.{needs}
+use Rattle.integers.specs.Integers.{sumℤ}
+use Rattle.integers.proofs.Machine.{back, told, sum-abs}
+use Rattle.integers.proofs.Sums.{sumℤ-next, sumℤ-end}
+use Rattle.integers.proofs.total_of.Statement.{statement}
+use Rattle.integers.proofs.total_of.Tie as tie
+
+abbrev Inv-loop : tie.InvT-loop
+Inv-loop totals total₀ i₀ total i =
+    (i ≤ 6) × (length totals ≡ 6) × (natAbs (toZ w64 total) ≤ i * 1_000_000_000_000_000) × (sumℤ totals ≡ toZ w64 total +ℤ sumℤ (drop i totals))
+
+abbrev μ-loop : tie.MeasureT-loop
+μ-loop totals total₀ i₀ total i = 6 - i
+
+loop-holds : tie.Need-loop-holds Inv-loop μ-loop
+loop-holds c = (search needs, search needs, search needs, sym (+ℤ-idl _))
+
+mul-add-bounded : tie.Need-mul-add-bounded Inv-loop μ-loop
+mul-add-bounded c = search needs
+
+array-copy-out-add-bounded : tie.Need-array-copy-out-add-bounded Inv-loop μ-loop
+array-copy-out-add-bounded c = search needs
+
+add-bounded-requires : tie.Need-add-bounded-requires Inv-loop μ-loop
+add-bounded-requires c κs =
+    let l = c .before .before in
+    rw (told w64 (c .add-bounded-arg .given) refl) (omega (arith, l .before .pre (l .loop .i)))
+
+add-i : tie.Need-add-i Inv-loop μ-loop
+add-i c = search needs
+
+loop-less : tie.Need-loop-less Inv-loop μ-loop
+loop-less c = search needs
+
+loop-again : tie.Need-loop-again Inv-loop μ-loop
+loop-again c =
+    let l = c .before .before .before in
+    let zs = l .before .args .t1 in
+    let i = l .loop .i in
+    let t = toZ w64 (l .loop .total) in
+    let z = getD zs i (pos 0) in
+    let x : back w64 z ≡ z = told w64 (c .before .add-bounded-arg .given) refl in
+    let e : back w64 (c .add-bounded .result) ≡ t +ℤ z = told w64 (c .add-bounded .ok) (c .add-bounded .ensures ∙ ap (λ (y : ℤ). t +ℤ y) x) in
+    let s : sumℤ zs ≡ t +ℤ z +ℤ sumℤ (drop (i + 1) zs) = l .loop .inv .3 ∙ sumℤ-next zs i t (omega arith) in
+    (omega arith, l .loop .inv .1, rw e (omega (arith, sum-abs t z, l .before .pre i)), rw e s)
+
+returns : tie.Need-returns Inv-loop μ-loop
+returns c = let l = c .before in sym (l .loop .inv .3 ∙ sumℤ-end (l .before .args .t1) (l .loop .i) (toZ w64 (l .loop .total)) (omega arith))
+
+pub total-of-spec : {M : Type 1} → statement M
+total-of-spec =
+    tie.close
+    (tie.spec
+    Inv-loop
+    μ-loop
+    loop-holds
+    mul-add-bounded
+    array-copy-out-add-bounded
+    add-bounded-requires
+    add-i
+    loop-less
+    loop-again
+    returns)
