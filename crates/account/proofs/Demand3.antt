@@ -18,18 +18,18 @@ use Rattle.figures.specs.SlotTotals.{plus}
 use Rattle.ledger.specs.States.{noState, taken}
 use Rattle.figures.specs.Figures.{figuresOf}
 use Rattle.ledger.specs.Operations.{pointRefusal, addingRefusal, closingRefusal, closeOf}
-use Rattle.tembuyas.specs.Account.{Account, product, partsOfkW, partsOfWatt, partsOfWh, exactly, exactSum, exactShortfall, opening, Said, said, saysOf, allRefused, account}
-use Rattle.tembuyas.specs.Demand3.{takenBefore, takenAll, allQuotients, roundedTotal, noRemainder, noLoss, keepsFractions, Accurate, Agree, both-refuse, both-accept, both-close, AgreeAll, end, next, Demand3}
+use Rattle.account.specs.Account.{Account, product, partsOfkW, partsOfWatt, partsOfWh, exactly, exactSum, exactShortfall, opening, Said, said, saysOf, allRefused, account}
+use Rattle.account.specs.Demand3.{takenBefore, takenAll, allQuotients, roundedTotal, noRemainder, noLoss, keepsFractions, Accurate, Agree, both-refuse, both-accept, both-close, AgreeAll, end, next, Demand3}
 use Rattle.heads.specs.declared.Head.{Head}
 use Rattle.ledger.specs.declared.State.{State}
 use Rattle.figures.specs.declared.Figures.{Figures}
 use Rattle.numbers.proofs.Tests.{every, none-append, gather-append}
-use Rattle.tembuyas.proofs.Sums.{sum-append, taken-total}
+use Rattle.account.proofs.Sums.{sum-append, taken-total}
 use Rattle.figures.proofs.SlotTotals.{plus-length}
-use Rattle.tembuyas.proofs.Rounding.{whole, compared}
+use Rattle.account.proofs.Rounding.{whole, compared}
 use Rattle.heads.proofs.Opening.{opens}
 use Rattle.ledger.proofs.Taking.{takes, six-quotients, six-results}
-use Rattle.tembuyas.proofs.Divisors.{goes-by, wh-pos, wholes}
+use Rattle.account.proofs.Divisors.{goes-by, wh-pos, wholes}
 use Rattle.ledger.proofs.Sound.{Sound, open-good, open-bad, opened-sound, add-good, add-bad, adding-sound, taken-sound, close-good, close-bad, closing-sound, nothing-taken, nothing-closed}
 use Rattle.ledger.specs.Calls.{Call, adding, closing, refused, closed, replyOf, replies, program}
 

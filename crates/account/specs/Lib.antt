@@ -1,3 +1,2 @@
 pub mod Account
 pub mod Demand3
-pub mod Examples

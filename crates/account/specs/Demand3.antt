@@ -13,7 +13,7 @@ use Rattle.numbers.specs.Lists.{any, gather}
 use Rattle.integers.specs.Integers.{divides, sumℤ}
 use Rattle.heads.specs.Heads.{headOf}
 use Rattle.points.specs.Points.{Point, Kind, consumer, generator, unknown, Quotient, kindOf, quotients, rounded}
-use Rattle.tembuyas.specs.Account.{Account, opening, takes, after, Said, partsOfkW, partsOfWatt, partsOfWh, account}
+use Rattle.account.specs.Account.{Account, opening, takes, after, Said, partsOfkW, partsOfWatt, partsOfWh, account}
 use Rattle.heads.specs.declared.Head.{Head}
 use Rattle.figures.specs.declared.Figures.{Figures}
 use Rattle.ledger.specs.Calls.{Call, adding, closing, Reply, refused, accepted, closed, program}

@@ -18,8 +18,8 @@ use Rattle.figures.specs.SlotTotals.{plus}
 use Rattle.ledger.specs.States.{isUnsound, taken}
 use Rattle.figures.specs.Figures.{figuresOf}
 use Rattle.ledger.specs.Operations.{openOf, pointRefusal, addingRefusal, addOf, closingRefusal, closeOf}
-use Rattle.tembuyas.specs.Account.{opening, Said, saysOf, account, partsOfkW}
-use Rattle.tembuyas.specs.Examples.{head, highVoltage}
+use Rattle.account.specs.Account.{opening, Said, saysOf, account, partsOfkW}
+use Rattle.worked_examples.specs.Examples.{head, highVoltage}
 use Rattle.ledger.specs.Calls.{Call, adding, closing, refused, accepted, closed, replies, program}
 
 -- the head of the examples with two points to come: contract 1,000 kW, losses 700, 400, 200

@@ -15,11 +15,11 @@ use Rattle.integers.specs.Integers.{divides}
 use Rattle.numbers.proofs.Filling.{any-append}
 use Rattle.integers.proofs.Floors.{divides-one}
 use Rattle.points.specs.Points.{Point, Kind, consumer, generator, unknown, kindOf, classOf, isUnfit, baselineOf, readingsOf, generatorQuotient, quotients}
-use Rattle.tembuyas.specs.Account.{partsOfWh}
-use Rattle.tembuyas.specs.Demand3.{divisionsBy, divisions, allQuotients}
+use Rattle.account.specs.Account.{partsOfWh}
+use Rattle.account.specs.Demand3.{divisionsBy, divisions, allQuotients}
 use Rattle.heads.specs.declared.Head.{Head}
 use Rattle.numbers.proofs.Tests.{no-false, every, every-run}
-use Rattle.tembuyas.proofs.Rounding.{whole, goesInto}
+use Rattle.account.proofs.Rounding.{whole, goesInto}
 use Rattle.heads.proofs.Opening.{both, Opens}
 
 -- ---- they go into the parts of a Wh
