@@ -10,7 +10,7 @@ use borrow.Author.Tests.{ltb-false, not-false}
 use Rattle.numbers.specs.Lists.{any}
 use Rattle.numbers.proofs.Filling.{any-none}
 use Rattle.numbers.proofs.Refusals.{testOf, untold, Within, within, clear-zero}
-use Rattle.heads.specs.Limits.{mostLoss, mostPoints}
+use Rattle.heads.specs.Limits.{earliestSlot, latestSlot, mostLoss, mostPoints}
 use Rattle.heads.specs.Heads.{headOf, contentTests, contentRefusal, openingTests, openingRefusal}
 use Rattle.heads.specs.declared.Head.{Head}
 
@@ -22,8 +22,8 @@ pub both : (a b : Bool) → not (a && b) ≡ false → T a × T b
 both a b e = and-yes a b (passed (a && b) e)
 
 pub record Opens (h : Head) : Type 0 where
-  pub first-slot : 18 ≤ h .slot
-  pub last-slot : h .slot ≤ 34
+  pub first-slot : earliestSlot ≤ h .slot
+  pub last-slot : h .slot ≤ latestSlot
   pub losses : (i : ℕ) → getD (h .losses) i 0 ≤ mostLoss
   pub some-points : 1 ≤ h .count
   pub most-points : h .count ≤ mostPoints
@@ -32,7 +32,7 @@ pub opens : (h : Head) (marks : List ℕ) → contentRefusal h marks ≡ 0 → O
 unfolding contentRefusal
 opens h marks e =
     let c = untold (contentTests h marks) tt e in
-    let slots = both (leb 18 (h .slot)) (leb (h .slot) 34) (c 4) in
+    let slots = both (leb earliestSlot (h .slot)) (leb (h .slot) latestSlot) (c 4) in
     let points = both (leb 1 (h .count)) (leb (h .count) mostPoints) (c 7) in
     record {
       first-slot = leb-yes (slots .0);

@@ -9,7 +9,7 @@ use Rattle.numbers.specs.Words.{word16, word32}
 use Rattle.numbers.specs.Refusals.{firstOf}
 use Rattle.calendar.specs.Dates.{isDate, dayCount, isWeekend}
 use Rattle.calendar.specs.Eligible.{isMark}
-use Rattle.heads.specs.Limits.{mostLoss, leastContract, mostContract, mostPoints}
+use Rattle.heads.specs.Limits.{earliestSlot, latestSlot, mostLoss, leastContract, mostContract, mostPoints}
 use Rattle.heads.specs.declared.Head.{Head}
 
 -- 'year 2, month 1, day 1, s 1, loss low 2, high 2, extra-high 2, contract in kW 4, point count 2'
@@ -33,7 +33,7 @@ abbrev pub contentTests : Head → List ℕ → List (Bool × ℕ)
 contentTests h marks =
     (not (isDate (h .year) (h .month) (h .day)), 2)
     ∷ (isWeekend (testDay h), 3)
-    ∷ (not (leb 18 (h .slot) && leb (h .slot) 34), 4)
+    ∷ (not (leb earliestSlot (h .slot) && leb (h .slot) latestSlot), 4)
     ∷ (any (λ loss. ltb mostLoss loss) (h .losses), 5)
     ∷ (not (eqb (h .contract) 0 || leb leastContract (h .contract) && leb (h .contract) mostContract), 6)
     ∷ (not (leb 1 (h .count) && leb (h .count) mostPoints), 7)

@@ -1,6 +1,13 @@
 -- The limits of document 01, each named once.
 use Prim.Native.Nat.{ℕ}
 
+-- s, the first slot of the window: 9:00, and 17:00 for a window that ends at 20:00
+abbrev pub earliestSlot : ℕ
+earliestSlot = 18
+
+abbrev pub latestSlot : ℕ
+latestSlot = 34
+
 -- hundredths of a percent
 abbrev pub mostLoss : ℕ
 mostLoss = 5_000

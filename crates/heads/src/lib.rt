@@ -5,10 +5,23 @@ ghost use Prim.Native.Nat.{ℕ, _<_, _≤_};
 ghost use lib.Dec.{leb, ltb, eqb};
 ghost use lib.ListN.{length};
 ghost use Rattle.numbers.specs.Lists.{any};
-ghost use Rattle.heads.specs.Limits.{mostLoss, leastContract, mostContract, mostPoints};
+ghost use Rattle.heads.specs.Limits.{earliestSlot, latestSlot, mostLoss, leastContract, mostContract, mostPoints};
 ghost use Rattle.heads.specs.Heads.{headOf, contentRefusal, openingRefusal};
 
 pub mod refusals;
+
+// The limits that opening tests (specs/Limits).
+const EARLIEST_SLOT: u8 = 18;
+
+const LATEST_SLOT: u8 = 34;
+
+const MOST_LOSS: u16 = 5000;
+
+const LEAST_CONTRACT: u32 = 1000;
+
+const MOST_CONTRACT: u32 = 10000000;
+
+const MOST_POINTS: u32 = 10000;
 
 // The values of a head (document 01, 'The test book').
 pub struct Head {
@@ -62,10 +75,10 @@ pub fn marks_of(bytes: &[u8]) -> [u8; 30]
 
 // The window begins at 9:00 at the earliest and ends at 20:00 at the latest.
 fn is_window_slot(slot: u8) -> bool
-    ensures { λ r. ⌜ r ≡ (leb 18 slot && leb slot 34) ⌝ }
+    ensures { λ r. ⌜ r ≡ (leb earliestSlot slot && leb slot latestSlot) ⌝ }
 {
     match slot {
-        18..=34 => true,
+        EARLIEST_SLOT..=LATEST_SLOT => true,
         _ => false,
     }
 }
@@ -74,13 +87,13 @@ fn is_window_slot(slot: u8) -> bool
 fn has_large_loss(losses: [u16; 3]) -> bool
     ensures { λ r. ⌜ r ≡ any (λ loss. ltb mostLoss loss) losses ⌝ }
 {
-    if 5000 < losses[0] {
+    if MOST_LOSS < losses[0] {
         return true;
     }
-    if 5000 < losses[1] {
+    if MOST_LOSS < losses[1] {
         return true;
     }
-    5000 < losses[2]
+    MOST_LOSS < losses[2]
 }
 
 // No contract, or one of 1,000 to 10,000,000 kW.
@@ -88,7 +101,7 @@ fn is_contract(contract: u32) -> bool
     ensures { λ r. ⌜ r ≡ (eqb contract 0 || leb leastContract contract && leb contract mostContract) ⌝ }
 {
     match contract {
-        0 | 1000..=10000000 => true,
+        0 | LEAST_CONTRACT..=MOST_CONTRACT => true,
         _ => false,
     }
 }
@@ -97,10 +110,11 @@ fn is_count(count: u32) -> bool
     ensures { λ r. ⌜ r ≡ (leb 1 count && leb count mostPoints) ⌝ }
 {
     match count {
-        1..=10000 => true,
+        1..=MOST_POINTS => true,
         _ => false,
     }
 }
+
 // What opening refuses in the values of a head and a calendar, 2 to 8. It is also asked of a state's contents.
 pub fn content_refusal(head: Head, marks: [u8; 30]) -> u32
     ensures { λ r. ⌜ r ≡ contentRefusal head marks ⌝ }
