@@ -9,7 +9,6 @@ use Rattle.numbers.specs.Lists.{run}
 use Rattle.numbers.proofs.Filling.{run-length}
 use Rattle.calendar.specs.Eligible.{ofDay, isEligible, eligibleDays}
 use Rattle.readings.specs.Readings.{windowSums, Back}
-use Rattle.baseline.specs.Choosing.{chosen}
 use Rattle.baseline.specs.Baseline.{chosenDays}
 use Rattle.baseline.specs.Days.{Rising, choice}
 use Rattle.baseline.specs.declared.choosing.Chosen.{Chosen}

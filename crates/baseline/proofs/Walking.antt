@@ -7,7 +7,7 @@ use native.Mathlib.Nat.{le-refl}
 use native.Mathlib.Omega.{arith}
 use lib.ListN.{length, getD, set, take, length-set}
 use lib.Seq.{take-all, append-snoc, length-take-le}
-use Rattle.numbers.specs.Lists.{sum, filter}
+use Rattle.numbers.specs.Lists.{sum}
 use Rattle.calendar.specs.Eligible.{ofDay}
 use Rattle.baseline.specs.Choosing.{round, standing}
 use Rattle.baseline.specs.Days.{daysFrom, Rising, none, next, Holds}

@@ -7,7 +7,7 @@ use native.Mathlib.Nat.{zero-add}
 use native.Mathlib.Omega.{arith}
 use borrow.Author.Tests.{le-ltb}
 use Rattle.heads.specs.Heads.{headOf}
-use Rattle.ledger.specs.States.{opened, taken}
+use Rattle.ledger.specs.States.{taken}
 use Rattle.ledger.specs.Operations.{closeOf}
 use Rattle.ledger.specs.declared.State.{State}
 use Rattle.ledger.proofs.Sound.{open-refusal, open-good, add-refusal, add-good, close-refusal, Sound, opened-sound, add-sound, closing-sound}

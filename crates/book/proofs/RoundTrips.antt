@@ -7,7 +7,7 @@ use native.Mathlib.Nat.{zero-add}
 use native.Mathlib.Numerals.{add-one}
 use native.Mathlib.Omega.{arith}
 use borrow.Author.Tests.{eqb-true, not-false, lt-leb, lt-ltb, le-ltb}
-use lib.Dec.{T, ltb, eqb}
+use lib.Dec.{T, ltb}
 use lib.ListN.{length}
 use mir.Facts.{and-yes, yes-and}
 use Rattle.numbers.specs.Lists.{gather}
@@ -23,7 +23,7 @@ use Rattle.ledger.specs.declared.State.{State}
 use Rattle.heads.proofs.Opening.{opening-lengths}
 use Rattle.ledger.proofs.Sound.{open-refusal, open-good, add-refusal, add-good, Sound, opened-sound, adding-sound, taken-sound}
 use Rattle.fields.specs.Fields.{written}
-use Rattle.book.specs.Reading.{good, Points, before, readPoints, Book, bookOf, readBook}
+use Rattle.book.specs.Reading.{good, Points, before, readPoints, bookOf, readBook}
 use Rattle.fields.specs.Writing.{pointWritingTests, pointWritingRefusal}
 use Rattle.book.specs.Demand2.{risesAfter, rises, roomFor, Each, Bytes, ReadsBack, WritesSame, writtenBook}
 use Rattle.fields.specs.declared.Due.the-variants as due

@@ -1,6 +1,6 @@
 -- A field's header: what its tests tell, and what one that is not refused shows. Assumes nothing.
 use mathlib.Core.Path.{_≡_}
-use mathlib.Core.Bool.{true, false, cond, not, _&&_, and-false}
+use mathlib.Core.Bool.{true, false, cond, _&&_, and-false}
 use mathlib.Core.List.{List}
 use Prim.Native.Nat.{ℕ, _≤_, _<_}
 use native.Mathlib.Omega.{arith}

@@ -7,7 +7,6 @@ use lib.Dec.{T, leb, ltb, eqb}
 use lib.ListN.{length, getD}
 use mir.Facts.{and-yes, leb-yes, eqb-yes}
 use borrow.Author.Tests.{ltb-false, not-false}
-use Rattle.numbers.specs.Lists.{any}
 use Rattle.numbers.proofs.Filling.{any-none}
 use Rattle.numbers.proofs.Refusals.{testOf, untold, Within, within, clear-zero}
 use Rattle.heads.specs.Limits.{earliestSlot, latestSlot, mostLoss, mostPoints}

@@ -137,7 +137,3 @@ pub ≤ℤ-<ℤ-trans : (x y z : ℤ) → x ≤ℤ y → y <ℤ z → x <ℤ z
 
 pub ≤ℤ-antisym : (x y : ℤ) → x ≤ℤ y → y ≤ℤ x → x ≡ y
 ≤ℤ-antisym = by⊖ _ λ a a′. by⊖ _ λ b b′. simp ⊖s (omega arith)
-
--- the size of a sum
-pub natAbs-+ℤ : (k l : ℕ) (x y : ℤ) → natAbs x ≤ k → natAbs y ≤ l → natAbs (x +ℤ y) ≤ k + l
-natAbs-+ℤ k l = by⊖ _ λ a a′. by⊖ _ λ b b′. simp ⊖s (omega arith)

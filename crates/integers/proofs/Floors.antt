@@ -6,7 +6,7 @@ use native.Mathlib.Nat.{div-add-mod', mod-lt, mod-eq-of-lt, mod-self, mod-one, s
 use native.Mathlib.Decide.{decLt}
 use native.Mathlib.Omega.{arith}
 use lib.Dec.{T}
-use lib.IntN.{ℤ, pos, negsuc, _+ℤ_, _-ℤ_, _*ℤ_, natAbs}
+use lib.IntN.{ℤ, pos, negsuc, _+ℤ_, _*ℤ_, natAbs}
 use lib.Signed.{_≤ℤ_, _<ℤ_}
 use mir.Facts.{eqb-yes, yes-eqb}
 use Rattle.integers.specs.Integers.{floorDiv, divides}
@@ -66,17 +66,3 @@ divides-rest d (negsuc n) p = (λ t. last-rest d n p .0 (eqb-yes t), λ e. yes-e
 -- Divided by 1, nothing is left.
 pub divides-one : (z : ℤ) → T (divides 1 z)
 divides-one z = yes-eqb (mod-one (natAbs z))
-
--- a slot result lies between −2,000,000,000 and 4,000,000,000: b the baseline in twenty-fourths, u the use, p = 10,000 − loss
-pub slot-bound : (b u p : ℕ) → b ≤ 48_000_000_000 → u ≤ 1_000_000_000 → 5_000 ≤ p
-    → natAbs (floorDiv ((pos b -ℤ pos (24 * u)) *ℤ pos 10_000) (24 * p)) ≤ 4_000_000_000
-slot-bound b u p hb hu hp =
-    let n = (pos b -ℤ pos (24 * u)) *ℤ pos 10_000 in
-    go (floorDiv n (24 * p)) (floor-low n (24 * p) (omega arith)) (floor-high n (24 * p) (omega arith))
-  where
-    go : (q : ℤ) → (q *ℤ pos (24 * p)) ≤ℤ ((pos b -ℤ pos (24 * u)) *ℤ pos 10_000)
-        → ((pos b -ℤ pos (24 * u)) *ℤ pos 10_000) <ℤ (q *ℤ pos (24 * p) +ℤ pos (24 * p)) → natAbs q ≤ 4_000_000_000
-    go = by⊖ _ λ a a′. simp ⊖s λ l h.
-        let i : a < a′ + 4_000_000_001 = lt-of-mul-lt-mul-right p (omega arith) in
-        let j : a′ < a + 2_000_000_002 = lt-of-mul-lt-mul-right p (omega arith) in
-        omega arith

@@ -1,10 +1,9 @@
 -- Adding in steps: the early refusals, then the days. Assumes nothing.
 use mathlib.Core.Path.{_≡_, refl, sym, _∙_}
-use mathlib.Core.Bool.{Bool, true, false, not, true≢false}
+use mathlib.Core.Bool.{Bool, true, false, true≢false}
 use mathlib.Core.List.{List, [], _∷_}
 use Prim.Native.Nat.{ℕ, _+_, _<_, _≤_}
 use native.Mathlib.Omega.{arith}
-use lib.Dec.{leb, eqb}
 use lib.IntN.{ℤ, pos, natAbs}
 use lib.ListN.{length, getD}
 use borrow.Author.Tests.{leb-false, eqb-true, not-false, eq-eqb, ne-eqb}

@@ -7,13 +7,13 @@ use Prim.Native.Nat.{ℕ, _+_, _*_, _<_, _≤_}
 use native.Mathlib.Decide.{ℕ-discrete}
 use native.Mathlib.Omega.{arith}
 use lib.Dec.{T, ltb, eqb}
-use lib.IntN.{ℤ, _+ℤ_}
+use lib.IntN.{ℤ, natAbs, _+ℤ_}
 use mir.Facts.{ltb-no, no-ltb, no-eqb}
 use borrow.Author.Tests.{eqb-true, eq-eqb, ne-eqb, not-false}
 use Rattle.numbers.specs.Lists.{any}
 use Rattle.numbers.specs.Refusals.{firstOf}
 use Rattle.numbers.specs.PointNumbers.{isNumber}
-use Rattle.integers.proofs.Differences.{natAbs-+ℤ}
+use Rattle.integers.proofs.Machine.{sum-abs}
 use Rattle.calendar.specs.Dates.{isDate}
 use Rattle.heads.specs.Limits.{mostResult}
 use Rattle.heads.specs.Heads.{headOf, contentRefusal, openingRefusal}
@@ -128,8 +128,10 @@ plus-small k l (x ∷ xs) [] p q = tt
 plus-small k l (x ∷ xs) (y ∷ ys) p q =
     let f = none-cons (isBeyond k) x xs .0 p in
     let g = none-cons (isBeyond l) y ys .0 q in
-    none-cons (isBeyond (k + l)) (x +ℤ y) (plus xs ys) .1
-    (no-ltb (natAbs-+ℤ k l x y (ltb-no (f .0)) (ltb-no (g .0))), plus-small k l xs ys (f .1) (g .1))
+    let small-x : natAbs x ≤ k = ltb-no (f .0) in
+    let small-y : natAbs y ≤ l = ltb-no (g .0) in
+    let small : natAbs (x +ℤ y) ≤ k + l = omega (arith, sum-abs x y) in
+    none-cons (isBeyond (k + l)) (x +ℤ y) (plus xs ys) .1 (no-ltb small, plus-small k l xs ys (f .1) (g .1))
 
 shown : (some number : Bool) → T number → T (not (some && not number))
 shown true true t = tt

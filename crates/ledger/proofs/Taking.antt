@@ -8,7 +8,6 @@ use lib.IntN.{pos, natAbs}
 use lib.ListN.{length, getD, length-map}
 use mir.Facts.{eqb-yes}
 use borrow.Author.Tests.{leb-false}
-use Rattle.numbers.specs.Lists.{any}
 use Rattle.numbers.specs.PointNumbers.{isNumber, below}
 use Rattle.numbers.proofs.Refusals.{untold}
 use Rattle.numbers.proofs.Tests.{noneOf, any-map}

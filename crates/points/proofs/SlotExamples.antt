@@ -1,6 +1,6 @@
 -- The slot result of a consumer at the numbers of document 01's examples: high voltage, loss 400, a baseline of 24 × 1,200. Assumes nothing.
 use mathlib.Core.Path.{_≡_, refl}
-use lib.IntN.{ℤ, pos, negsuc}
+use lib.IntN.{pos, negsuc}
 use Rattle.points.specs.Points.{consumerQuotient, rounded}
 
 -- use 240 (H), 241 (I), 1,200 and 1,201 (J)

@@ -4,7 +4,7 @@ use mathlib.Core.List.{List, [], map}
 use Prim.Native.Nat.{ℕ, zero, suc, _+_, _*_, _-_, _<_, _≤_}
 use native.Mathlib.Omega.{arith}
 use lib.ListN.{length, getD}
-use Rattle.numbers.specs.Lists.{run, sum}
+use Rattle.numbers.specs.Lists.{sum}
 use Rattle.readings.specs.Readings.{mostReading, firstLarge, reading, windowSum, windowSums, slotSums, daySums, earlierUse, Back}
 use Rattle.readings.proofs.Sums.{run-within, sum-within, days-within}
 use Rattle.readings.proofs.Large.{none-large}

@@ -2,18 +2,20 @@
 use mathlib.Core.Path.{_≡_}
 use mathlib.Core.Bool.{Bool, false, true≢false}
 use mathlib.Core.List.{List}
-use Prim.Native.Nat.{ℕ, _+_, _*_, _-_, _≤_}
-use native.Mathlib.Nat.{le-trans, le-antisymm}
+use Prim.Native.Nat.{ℕ, _+_, _*_, _-_, _≤_, _<_}
+use native.Mathlib.Nat.{le-trans, le-antisymm, lt-of-mul-lt-mul-right}
 use native.Mathlib.Omega.{arith}
 use lib.Dec.{T, ltb}
-use lib.IntN.{ℤ, pos, natAbs, _-ℤ_}
+use lib.IntN.{ℤ, pos, natAbs, _+ℤ_, _-ℤ_, _*ℤ_}
+use lib.Signed.{_≤ℤ_, _<ℤ_}
 use lib.ListN.{length, getD}
 use mir.Facts.{no-ltb}
 use borrow.Author.Tests.{ltb-false, le-ltb}
 use Rattle.numbers.specs.Lists.{any}
 use Rattle.numbers.proofs.Filling.{run-length, any-none}
-use Rattle.integers.proofs.Differences.{⊖s}
-use Rattle.integers.proofs.Floors.{natAbs-floor, slot-bound}
+use Rattle.integers.specs.Integers.{floorDiv}
+use Rattle.integers.proofs.Differences.{by⊖, ⊖s}
+use Rattle.integers.proofs.Floors.{natAbs-floor, floor-low, floor-high}
 use Rattle.readings.specs.Readings.{mostReading, firstLarge, daySums, earlierUse}
 use Rattle.baseline.specs.Baseline.{chosenDays, baseline}
 use Rattle.readings.proofs.Large.{none-large, first-bound}
@@ -52,6 +54,20 @@ baseline-small readings fits test marks s j h =
       day-sums-bound readings fits days (chosen-days-four test marks readings s) (chosen-days-back test marks readings s) s (omega arith) 0 j,
       earlier-use-bound readings fits s (omega arith),
     )
+
+-- a slot result lies between −2,000,000,000 and 4,000,000,000: b the baseline in twenty-fourths, u the use, p = 10,000 − loss
+slot-bound : (b u p : ℕ) → b ≤ 48_000_000_000 → u ≤ 1_000_000_000 → 5_000 ≤ p
+    → natAbs (floorDiv ((pos b -ℤ pos (24 * u)) *ℤ pos 10_000) (24 * p)) ≤ 4_000_000_000
+slot-bound b u p hb hu hp =
+    let n = (pos b -ℤ pos (24 * u)) *ℤ pos 10_000 in
+    go (floorDiv n (24 * p)) (floor-low n (24 * p) (omega arith)) (floor-high n (24 * p) (omega arith))
+  where
+    go : (q : ℤ) → (q *ℤ pos (24 * p)) ≤ℤ ((pos b -ℤ pos (24 * u)) *ℤ pos 10_000)
+        → ((pos b -ℤ pos (24 * u)) *ℤ pos 10_000) <ℤ (q *ℤ pos (24 * p) +ℤ pos (24 * p)) → natAbs q ≤ 4_000_000_000
+    go = by⊖ _ λ a a′. simp ⊖s λ l h.
+        let i : a < a′ + 4_000_000_001 = lt-of-mul-lt-mul-right p (omega arith) in
+        let j : a′ < a + 2_000_000_002 = lt-of-mul-lt-mul-right p (omega arith) in
+        omega arith
 
 consumer-small : (loss base used : ℕ) → loss ≤ mostLoss → base ≤ 48 * mostReading → used ≤ mostReading
     → natAbs (rounded (consumerQuotient loss base used)) ≤ mostResult

@@ -15,7 +15,7 @@ use Rattle.points.specs.Points.{quotients}
 use Rattle.ledger.specs.States.{isUnsound}
 use Rattle.figures.specs.Figures.{figuresOf}
 use Rattle.ledger.specs.Operations.{openOf, addingRefusal, addOf, placesOf}
-use Rattle.worked_examples.specs.Examples.{CheckedExamples, Example, examples, highVoltage, placesWith, stateWith, plain, six}
+use Rattle.worked_examples.specs.Examples.{CheckedExamples, examples, highVoltage, placesWith, stateWith, plain, six}
 
 C : plain (addOf (stateWith (replicate 30 1)) 3 (highVoltage 1_200 240) 6 .refusal ∷ []) ≡ plain (18 ∷ [])
 unfolding run sum filter any gather bytesOf digits same isNumber below isDate dayCount firstLarge windowSums slotSums daySums earlierUse walk lowest used chosen headOf contentRefusal openingRefusal quotients isUnsound openOf addingRefusal highVoltage addOf

@@ -2,7 +2,7 @@
 use mathlib.Core.Path.{refl, sym, _∙_}
 use Prim.Native.Nat.{_-_}
 use native.Mathlib.Omega.{arith}
-use lib.ListN.{length, take, drop, length-drop, length-take}
+use lib.ListN.{length, drop, length-drop, length-take}
 use Rattle.heads.proofs.Opening.{opening-lengths}
 use Rattle.fields.proofs.Storing.{head-refused, head-room, head-written, head-length, two-fields}
 use borrow.Author.Needs.{needs}
