@@ -1,5 +1,6 @@
 -- `chosen_days` meets its contract. Assumes nothing.
 use mathlib.Core.Path.{_≡_, _∙_}
+use native.Mathlib.Omega.{arith}
 use borrow.Author.Needs.{needs}
 use Rattle.calendar.specs.Eligible.{isEligible}
 use Rattle.baseline.specs.Baseline.{chosenDays}
@@ -22,7 +23,7 @@ slice-aggregate-choose c = search needs
 choose-requires : tie.Need-choose-requires
 choose-requires c κs =
     let s = c .before .before .before .before in
-    (search needs, rw (c .before .window-sums .ensures) (window-sums-bound _ (s .pre .3) _ (s .pre .2)))
+    (search needs, rw (c .before .window-sums .ensures) (window-sums-bound _ (s .pre .3) _ (omega arith)))
 
 returns : tie.Need-returns
 returns c =
