@@ -4,6 +4,6 @@ use Prim.Native.Nat.{ℕ}
 use Prim.Native.Char.{code}
 use Prim.Native.String.{String, [], _∷_}
 
-unfoldable pub ascii : String → List ℕ
+abbrev pub ascii : String → List ℕ
 ascii [] = none
 ascii (c ∷ cs) = code c then ascii cs

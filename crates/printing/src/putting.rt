@@ -1,7 +1,6 @@
 // Words and numbers, put from a place on. Each answers the place behind what it put.
-ghost use mathlib.Core.Path.{_≡_};
 ghost use mathlib.Core.List.{_++_};
-ghost use Prim.Native.Nat.{ℕ, _+_, _≤_};
+ghost use Prim.Native.Nat.{_+_, _≤_};
 ghost use lib.ListN.{length};
 ghost use Rattle.printing.specs.Ascii.{ascii};
 ghost use Rattle.printing.specs.Numerals.{decimal, twoDigits, signed};
@@ -23,6 +22,7 @@ pub(crate) fn put(text: &[u8], at: usize, out: &mut [u8]) -> usize
 pub(crate) fn put_number(number: u64, at: usize, out: &mut [u8]) -> usize
     requires { ⌜ at + 20 ≤ length (now out) ⌝ }
     ensures { λ r. ⌜ Placed (decimal number) at (now (out .entry)) r (now (out .exit)) ⌝ }
+    ensures { λ r. ⌜ r ≤ at + 20 ⌝ }
 {
     let mut digits = [0u8; 20];
     let size = io::decimal(number, &mut digits);
@@ -33,6 +33,7 @@ pub(crate) fn put_number(number: u64, at: usize, out: &mut [u8]) -> usize
 pub(crate) fn put_two_digits(number: u8, at: usize, out: &mut [u8]) -> usize
     requires { ⌜ at + 21 ≤ length (now out) ⌝ }
     ensures { λ r. ⌜ Placed (twoDigits number) at (now (out .entry)) r (now (out .exit)) ⌝ }
+    ensures { λ r. ⌜ r ≤ at + 21 ⌝ }
 {
     if number < 10 {
         let zero = put(b"0", at, out);
@@ -44,6 +45,7 @@ pub(crate) fn put_two_digits(number: u8, at: usize, out: &mut [u8]) -> usize
 pub(crate) fn put_signed(number: i64, at: usize, out: &mut [u8]) -> usize
     requires { ⌜ at + 21 ≤ length (now out) ⌝ }
     ensures { λ r. ⌜ Placed (signed number) at (now (out .entry)) r (now (out .exit)) ⌝ }
+    ensures { λ r. ⌜ r ≤ at + 21 ⌝ }
 {
     let size = numbers::size_of(number);
     if number < 0 {
@@ -57,6 +59,7 @@ pub(crate) fn put_signed(number: i64, at: usize, out: &mut [u8]) -> usize
 pub(crate) fn put_line(name: &[u8], number: u64, at: usize, out: &mut [u8]) -> usize
     requires { ⌜ at + (length (now name) + 21) ≤ length (now out) ⌝ }
     ensures { λ r. ⌜ Placed (now (name .entry) ++ (decimal number ++ ascii "\n")) at (now (out .entry)) r (now (out .exit)) ⌝ }
+    ensures { λ r. ⌜ r ≤ at + (length (now (name .entry)) + 21) ⌝ }
 {
     let named = put(name, at, out);
     let told = put_number(number, named, out);
@@ -66,6 +69,7 @@ pub(crate) fn put_line(name: &[u8], number: u64, at: usize, out: &mut [u8]) -> u
 pub(crate) fn put_signed_line(name: &[u8], number: i64, at: usize, out: &mut [u8]) -> usize
     requires { ⌜ at + (length (now name) + 22) ≤ length (now out) ⌝ }
     ensures { λ r. ⌜ Placed (now (name .entry) ++ (signed number ++ ascii "\n")) at (now (out .entry)) r (now (out .exit)) ⌝ }
+    ensures { λ r. ⌜ r ≤ at + (length (now (name .entry)) + 22) ⌝ }
 {
     let named = put(name, at, out);
     let told = put_signed(number, named, out);
