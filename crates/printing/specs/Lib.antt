@@ -2,3 +2,4 @@ pub mod Ascii
 pub mod Numerals
 pub mod Placing
 pub mod Printed
+pub mod Examples
