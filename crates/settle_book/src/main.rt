@@ -1,6 +1,11 @@
 // Settles the test book on standard input, holding one field at a time, and prints its figures or its refusal.
+ghost use mathlib.Core.Path.{_≡_};
 ghost use Prim.Native.Nat.{_≤_};
 ghost use lib.ListN.{length};
+ghost use Rattle.io.specs.Counts.{Counts};
+ghost use Rattle.fields.specs.Writing.{atFront};
+ghost use Rattle.feeding.specs.Feeding.{endingFed};
+ghost use Rattle.printing.specs.Printed.{textOf};
 use book::Ending;
 use feeding::Progress;
 use libc::STDERR_FILENO;
@@ -45,13 +50,21 @@ fn read_bytes(buffer: &mut [u8], n: usize) -> Got
     }
 }
 
-// Writes the text of the book in one go.
-fn report(progress: Progress) {
+// The text of a book that was fed to its end, at the front of the lent bytes, and how long it is.
+fn put_text(progress: Progress, out: &mut [u8; 640]) -> usize
+    ensures { λ r. ⌜ (r ≡ length (textOf (endingFed progress))) × (now (out .exit) ≡ atFront (textOf (endingFed progress)) (now (out .entry))) ⌝ }
+    ensures { λ r. ⌜ Counts r (now (out .exit)) ⌝ }
+{
     let refusal = progress.refusal;
     let state = progress.state;
     let ending = Ending { refusal, state };
+    printing::write_text(ending, out)
+}
+
+// Writes the text of the book in one go.
+fn report(progress: Progress) {
     let mut text = [0u8; 640];
-    let size = printing::write_text(ending, &mut text);
+    let size = put_text(progress, &mut text);
     if !io::write_all(STDOUT_FILENO, &text[..size]) {
         io::write_all(
             STDERR_FILENO,
