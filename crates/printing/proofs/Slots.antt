@@ -3,12 +3,15 @@ use mathlib.Core.Path.{_≡_, refl, sym, ap, _∙_}
 use mathlib.Core.List.{List, [], _∷_, _++_, append-assoc, append-nil}
 use Prim.Native.Nat.{ℕ, zero, suc, _+_, _<_}
 use native.Mathlib.Nat.{le-of-suc-le-suc, not-suc-le-zero}
+use native.Mathlib.Numerals.{add-one}
 use native.Mathlib.Omega.{arith}
 use lib.IntN.{ℤ, pos}
 use lib.ListN.{length, getD, take}
 use Rattle.printing.specs.Ascii.{ascii}
 use Rattle.printing.specs.Numerals.{decimal, signed}
+use Rattle.printing.specs.Placing.{Placed}
 use Rattle.printing.specs.Printed.{line, slotLines}
+use Rattle.printing.proofs.Places.{named}
 
 -- the line of one slot
 abbrev pub slotLine : ℕ → ℤ → List ℕ
@@ -22,7 +25,7 @@ pub slots-none : (n : ℕ) (totals : List ℤ) → slotLines n (take 0 totals) �
 unfolding slotLines
 slots-none n totals = refl
 
-pub slots-more : (n i : ℕ) (totals : List ℤ) → i < length totals
+slots-more : (n i : ℕ) (totals : List ℤ) → i < length totals
     → slotLines n (take (suc i) totals) ≡ slotLines n (take i totals) ++ slotLine (n + i) (getD totals i (pos 0))
 unfolding slotLines
 slots-more n i [] h = absurd (not-suc-le-zero h)
@@ -37,3 +40,10 @@ slots-more n (suc i) (total ∷ totals) h =
     ∙ ap (λ bytes. slotLine n total ++ bytes) (slots-more (suc n) i totals (le-of-suc-le-suc h) ∙ ap (λ (k : ℕ). front ++ slotLine k (getD totals i (pos 0))) e)
     ∙ sym (append-assoc (slotLine n total) front last)
     ∙ ap (λ bytes. bytes ++ last) (line-then n total front)
+
+-- the slots before i stand, and one more is put behind them, with its number
+pub slot-placed : {k at end : ℕ} {out after : List ℕ} (i : ℕ) (totals : List ℤ)
+    → Placed (slotLines 1 (take i totals) ++ slotLine k (getD totals i (pos 0))) at out end after
+    → k ≡ 1 + i → i < length totals → Placed (slotLines 1 (take (i + 1) totals)) at out end after
+slot-placed i totals p e h =
+    named (ap (λ (n : ℕ). slotLines 1 (take i totals) ++ slotLine n (getD totals i (pos 0))) e ∙ sym (slots-more 1 i totals h) ∙ ap (λ (n : ℕ). slotLines 1 (take n totals)) (sym (add-one i))) p

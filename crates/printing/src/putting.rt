@@ -72,6 +72,6 @@ pub(crate) fn put_signed_line(name: &[u8], number: i64, at: usize, out: &mut [u8
     ensures { λ r. ⌜ r ≤ at + (length (now (name .entry)) + 22) ⌝ }
 {
     let named = put(name, at, out);
-    let told = put_signed(number, named, out);
-    put(b"\n", told, out)
+    let signed = put_signed(number, named, out);
+    put(b"\n", signed, out)
 }

@@ -13,7 +13,7 @@ use Rattle.printing.specs.Numerals.{signed}
 use Rattle.printing.specs.Placing.{Placed}
 use Rattle.printing.specs.Printed.{line, slotLines}
 use Rattle.printing.proofs.Places.{then, named, nothing}
-use Rattle.printing.proofs.Slots.{slotLine, slots-none, slots-more}
+use Rattle.printing.proofs.Slots.{slots-none, slot-placed}
 use Rattle.printing.proofs.put_slots.Statement.{statement}
 use Rattle.printing.proofs.put_slots.Tie as tie
 
@@ -65,19 +65,17 @@ loop-again c =
     let l = first .before .before .before .before .loop in
     let s = first .before .before .before .before .before .before in
     let t = s .args .t1 in
-    let total = getD t (l .i) (pos 0) in
-    let one : l .i + 1 ≡ 1 + l .i = omega arith in
-    let lines : slotLines 1 (take (l .i) t) ++ slotLine (l .i + 1) total ≡ slotLines 1 (take (l .i + 1) t) =
-    ap (λ (k : ℕ). slotLines 1 (take (l .i) t) ++ slotLine k total) one ∙ sym (slots-more 1 (l .i) t (omega arith)) ∙ ap (λ (k : ℕ). slotLines 1 (take k t)) (sym (add-one (l .i)))
-    in (
+    let total = getD t (l .i) (pos 0) in (
       search needs,
       l .inv .1,
       search needs,
       omega arith,
-      named lines
+      slot-placed (l .i) t
           (then (l .inv .4)
           (then (first .put .ensures)
-          (then (second .put-number .ensures .0) (named (ap (line " ") (ap signed (word-back total (search needs)))) (third .put-signed-line .ensures .0))))),
+          (then (second .put-number .ensures .0) (named (ap (line " ") (ap signed (word-back total (search needs)))) (third .put-signed-line .ensures .0)))))
+          (omega arith)
+          (omega arith),
     )
 
 same-length : tie.Need-same-length Inv-loop μ-loop

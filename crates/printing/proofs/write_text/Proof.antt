@@ -22,7 +22,7 @@ returns c =
     ((front-end p, search needs, front-bytes p), front-counts p)
 
 put-settled-requires : tie.Need-put-settled-requires
-put-settled-requires c κs = search needs
+put-settled-requires c κs = omega arith
 
 returns-2 : tie.Need-returns-2
 returns-2 c =
