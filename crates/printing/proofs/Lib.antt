@@ -1,0 +1,4 @@
+pub mod Places
+pub mod Decimals
+pub mod Slots
+pub mod Texts

@@ -1,0 +1,109 @@
+-- The lines of the slots before i stand.
+use mathlib.Core.Path.{_≡_, refl, sym, ap, _∙_}
+use mathlib.Core.List.{_++_}
+use Prim.Native.Nat.{ℕ, _≤_, _+_, _*_, _-_}
+use native.Mathlib.Numerals.{add-one}
+use native.Mathlib.Omega.{arith}
+use lib.IntN.{pos}
+use lib.ListN.{length, getD, take}
+use lib.Seq.{take-all}
+use borrow.Author.Needs.{needs}
+use Rattle.book.proofs.Results.{word-back}
+use Rattle.printing.specs.Numerals.{signed}
+use Rattle.printing.specs.Placing.{Placed}
+use Rattle.printing.specs.Printed.{line, slotLines}
+use Rattle.printing.proofs.Places.{then, named, nothing}
+use Rattle.printing.proofs.Slots.{slots-none, slot-placed}
+use Rattle.printing.proofs.put_slots.Statement.{statement}
+use Rattle.printing.proofs.put_slots.Tie as tie
+
+abbrev Inv-loop : tie.InvT-loop
+Inv-loop at out₀ totals end₀ i₀ t9 t10 out end i =
+    (i ≤ 6) × (length totals ≡ 6) × (length out ≡ length out₀) × (end ≤ at + 48 * i) × Placed (slotLines 1 (take i totals)) at out₀ end out
+
+abbrev μ-loop : tie.MeasureT-loop
+μ-loop at out₀ totals end₀ i₀ t9 t10 out end i = 6 - i
+
+loop-holds : tie.Need-loop-holds Inv-loop μ-loop
+loop-holds c = let s = c .before in (search needs, search needs, refl, search needs, named (sym (slots-none 1 (s .args .t1))) (nothing (s .args .at) (s .args .out .now) (omega arith)))
+
+slice-aggregate-put : tie.Need-slice-aggregate-put Inv-loop μ-loop
+slice-aggregate-put c = search needs
+
+put-requires : tie.Need-put-requires Inv-loop μ-loop
+put-requires c κs = search needs
+
+add-put-number : tie.Need-add-put-number Inv-loop μ-loop
+add-put-number c = search needs
+
+put-number-requires : tie.Need-put-number-requires Inv-loop μ-loop
+put-number-requires c κs = search needs
+
+slice-aggregate-put-signed-line : tie.Need-slice-aggregate-put-signed-line Inv-loop μ-loop
+slice-aggregate-put-signed-line c = search needs
+
+mul-put-signed-line : tie.Need-mul-put-signed-line Inv-loop μ-loop
+mul-put-signed-line c = search needs
+
+array-copy-out-put-signed-line : tie.Need-array-copy-out-put-signed-line Inv-loop μ-loop
+array-copy-out-put-signed-line c = search needs
+
+put-signed-line-requires : tie.Need-put-signed-line-requires Inv-loop μ-loop
+put-signed-line-requires c κs = search needs
+
+add-i : tie.Need-add-i Inv-loop μ-loop
+add-i c = search needs
+
+loop-less : tie.Need-loop-less Inv-loop μ-loop
+loop-less c = search needs
+
+loop-again : tie.Need-loop-again Inv-loop μ-loop
+loop-again c =
+    let third = c .before .before in
+    let second = third .before .before .before .before .before .before in
+    let first = second .before .before .before .before in
+    let l = first .before .before .before .before .loop in
+    let s = first .before .before .before .before .before .before in
+    let t = s .args .t1 in
+    let total = getD t (l .i) (pos 0) in (
+      search needs,
+      l .inv .1,
+      search needs,
+      omega arith,
+      slot-placed (l .i) t
+          (then (l .inv .4)
+          (then (first .put .ensures)
+          (then (second .put-number .ensures .0) (named (ap (line " ") (ap signed (word-back total (search needs)))) (third .put-signed-line .ensures .0)))))
+          (omega arith)
+          (omega arith),
+    )
+
+same-length : tie.Need-same-length Inv-loop μ-loop
+same-length c = search needs
+
+returns : tie.Need-returns Inv-loop μ-loop
+returns c =
+    let s = c .before .before .before in
+    let l = c .before .loop in
+    (named (ap (slotLines 1) (take-all (l .i) (s .args .t1) (omega arith))) (l .inv .4), omega arith)
+
+pub put-slots-spec : {M : Type 1} → statement M
+put-slots-spec =
+    tie.close
+    (tie.spec
+    Inv-loop
+    μ-loop
+    loop-holds
+    slice-aggregate-put
+    put-requires
+    add-put-number
+    put-number-requires
+    slice-aggregate-put-signed-line
+    mul-put-signed-line
+    array-copy-out-put-signed-line
+    put-signed-line-requires
+    add-i
+    loop-less
+    loop-again
+    same-length
+    returns)

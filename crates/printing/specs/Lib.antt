@@ -1,0 +1,4 @@
+pub mod Ascii
+pub mod Numerals
+pub mod Placing
+pub mod Printed

@@ -1,0 +1,25 @@
+-- Numbers as settle_book prints them (document 01, example M).
+use mathlib.Core.Bool.{cond}
+use mathlib.Core.List.{List, [], _∷_, _++_}
+use Prim.Native.Nat.{ℕ, zero, suc, _+_, _/_, _%_}
+use lib.Dec.{ltb}
+use lib.IntN.{ℤ, pos, negsuc}
+use Rattle.printing.specs.Ascii.{ascii}
+
+-- at most n digits
+unfoldable pub digitsOf : ℕ → ℕ → List ℕ
+digitsOf zero m = []
+digitsOf (suc n) m = cond (ltb m 10) ((48 + m) ∷ []) (digitsOf n (m / 10) ++ (48 + m % 10) ∷ [])
+
+-- 'numbers are decimal with no leading zeros'; one of 64 bits has at most twenty digits
+abbrev pub decimal : ℕ → List ℕ
+decimal m = digitsOf 20 m
+
+-- 'month and day always two digits'
+abbrev pub twoDigits : ℕ → List ℕ
+twoDigits m = cond (ltb m 10) (ascii "0" ++ decimal m) (decimal m)
+
+-- 'a minus sign stands before one below zero'
+abbrev pub signed : ℤ → List ℕ
+signed (pos m) = decimal m
+signed (negsuc m) = ascii "-" ++ decimal (suc m)

@@ -1,0 +1,72 @@
+-- What settle_book prints (document 01, example M): 'date and s, points, slot totals in order, then the closing figures'; 'a refused book
+-- prints one line'.
+use mathlib.Core.Bool.{Bool, cond}
+use mathlib.Core.List.{List, [], _∷_, _++_}
+use Prim.Native.Nat.{ℕ, suc}
+use Prim.Native.String.{String}
+use lib.Dec.{eqb}
+use lib.IntN.{ℤ}
+use Rattle.heads.specs.declared.Head.{Head}
+use Rattle.ledger.specs.Operations.{closeOf}
+use Rattle.ledger.specs.declared.State.{State}
+use Rattle.figures.specs.declared.Figures.{Figures}
+use Rattle.book.specs.Reading.{readBook}
+use Rattle.book.specs.Endings.{bookEnding}
+use Rattle.book.specs.declared.Ending.{Ending}
+use Rattle.printing.specs.Ascii.{ascii}
+use Rattle.printing.specs.Numerals.{decimal, twoDigits, signed}
+
+-- a name, what is told, the line's end
+abbrev pub line : String → List ℕ → List ℕ
+line name told = ascii name ++ (told ++ ascii "\n")
+
+-- a month or a day, behind a dash
+abbrev pub dashed : ℕ → List ℕ
+dashed m = ascii "-" ++ twoDigits m
+
+abbrev pub date : Head → List ℕ
+date head = decimal (head .year) ++ (dashed (head .month) ++ dashed (head .day))
+
+abbrev pub dateLine : Head → List ℕ
+dateLine head = ascii "date " ++ (date head ++ line " slot " (decimal (head .slot)))
+
+-- slot i and those after it
+unfoldable pub slotLines : ℕ → List ℤ → List ℕ
+slotLines i [] = []
+slotLines i (total ∷ totals) = ascii "slot " ++ (decimal i ++ (line " " (signed total) ++ slotLines (suc i) totals))
+
+-- Wh for the total, kW for the others
+abbrev pub settledLines : Figures → List ℕ
+settledLines figures =
+    line "total " (signed (figures .total))
+    ++ (line "settled " (signed (figures .settled))
+    ++ line "shortfall " (decimal (figures .shortfall)))
+
+abbrev pub bidLine : Bool → List ℕ
+bidLine bid = line "bid " (cond bid (ascii "yes") (ascii "no"))
+
+-- the capacity left after the test, in kW
+abbrev pub capacityLines : Figures → List ℕ
+capacityLines figures =
+    line "expected " (decimal (figures .expected))
+    ++ (line "kept " (decimal (figures .kept))
+    ++ (line "surplus " (decimal (figures .surplus))
+    ++ bidLine (figures .bid)))
+
+abbrev pub settledText : State → Figures → List ℕ
+settledText state figures =
+    dateLine (state .head) ++ (line "points " (decimal (figures .points)) ++ (slotLines 1 (state .totals) ++ (settledLines figures ++ capacityLines figures)))
+
+abbrev pub refusedText : ℕ → List ℕ
+refusedText refusal = line "refused " (decimal refusal)
+
+-- THE TEXT of a book whose reading has ended
+unfoldable pub textOf : Ending → List ℕ
+textOf ending =
+    cond (eqb (ending .refusal) 0)
+    (settledText (ending .state) (closeOf (ending .state) .figures))
+    (refusedText (ending .refusal))
+
+-- the text of a book
+abbrev pub bookText : List ℕ → List ℕ
+bookText book = textOf (bookEnding (readBook book))

@@ -1,0 +1,77 @@
+// Words and numbers, put from a place on. Each answers the place behind what it put.
+ghost use mathlib.Core.List.{_++_};
+ghost use Prim.Native.Nat.{_+_, _≤_};
+ghost use lib.ListN.{length};
+ghost use Rattle.printing.specs.Ascii.{ascii};
+ghost use Rattle.printing.specs.Numerals.{decimal, twoDigits, signed};
+ghost use Rattle.printing.specs.Placing.{Placed};
+
+pub(crate) fn put(text: &[u8], at: usize, out: &mut [u8]) -> usize
+    requires { ⌜ at + length (now text) ≤ length (now out) ⌝ }
+    ensures { λ r. ⌜ Placed (now (text .entry)) at (now (out .entry)) r (now (out .exit)) ⌝ }
+{
+    let size = text.len();
+    let mut i: usize = 0;
+    while i < size {
+        out[at + i] = text[i];
+        i += 1;
+    }
+    at + size
+}
+
+pub(crate) fn put_number(number: u64, at: usize, out: &mut [u8]) -> usize
+    requires { ⌜ at + 20 ≤ length (now out) ⌝ }
+    ensures { λ r. ⌜ Placed (decimal number) at (now (out .entry)) r (now (out .exit)) ⌝ }
+    ensures { λ r. ⌜ r ≤ at + 20 ⌝ }
+{
+    let mut digits = [0u8; 20];
+    let size = io::decimal(number, &mut digits);
+    put(&digits[..size], at, out)
+}
+
+// A month or a day: always two digits.
+pub(crate) fn put_two_digits(number: u8, at: usize, out: &mut [u8]) -> usize
+    requires { ⌜ at + 21 ≤ length (now out) ⌝ }
+    ensures { λ r. ⌜ Placed (twoDigits number) at (now (out .entry)) r (now (out .exit)) ⌝ }
+    ensures { λ r. ⌜ r ≤ at + 21 ⌝ }
+{
+    if number < 10 {
+        let zero = put(b"0", at, out);
+        return put_number(number as u64, zero, out);
+    }
+    put_number(number as u64, at, out)
+}
+
+pub(crate) fn put_signed(number: i64, at: usize, out: &mut [u8]) -> usize
+    requires { ⌜ at + 21 ≤ length (now out) ⌝ }
+    ensures { λ r. ⌜ Placed (signed number) at (now (out .entry)) r (now (out .exit)) ⌝ }
+    ensures { λ r. ⌜ r ≤ at + 21 ⌝ }
+{
+    let size = integers::size_of(number);
+    if number < 0 {
+        let minus = put(b"-", at, out);
+        return put_number(size, minus, out);
+    }
+    put_number(size, at, out)
+}
+
+// A name, a number, the line's end.
+pub(crate) fn put_line(name: &[u8], number: u64, at: usize, out: &mut [u8]) -> usize
+    requires { ⌜ at + (length (now name) + 21) ≤ length (now out) ⌝ }
+    ensures { λ r. ⌜ Placed (now (name .entry) ++ (decimal number ++ ascii "\n")) at (now (out .entry)) r (now (out .exit)) ⌝ }
+    ensures { λ r. ⌜ r ≤ at + (length (now (name .entry)) + 21) ⌝ }
+{
+    let named = put(name, at, out);
+    let told = put_number(number, named, out);
+    put(b"\n", told, out)
+}
+
+pub(crate) fn put_signed_line(name: &[u8], number: i64, at: usize, out: &mut [u8]) -> usize
+    requires { ⌜ at + (length (now name) + 22) ≤ length (now out) ⌝ }
+    ensures { λ r. ⌜ Placed (now (name .entry) ++ (signed number ++ ascii "\n")) at (now (out .entry)) r (now (out .exit)) ⌝ }
+    ensures { λ r. ⌜ r ≤ at + (length (now (name .entry)) + 22) ⌝ }
+{
+    let named = put(name, at, out);
+    let signed = put_signed(number, named, out);
+    put(b"\n", signed, out)
+}

@@ -1,0 +1,13 @@
+-- What is written is the text of this ending and of no other.
+use borrow.Author.Needs.{needs}
+use Rattle.settle_book.proofs.put_text.Statement.{statement}
+use Rattle.settle_book.proofs.put_text.Tie as tie
+
+write-text-requires : tie.Need-write-text-requires
+write-text-requires c κs = search needs
+
+returns : tie.Need-returns
+returns c = let text = c .write-text .ensures in ((text .0 .0, text .0 .2), text .1)
+
+pub put-text-spec : {M : Type 1} → statement M
+put-text-spec = tie.close (tie.spec write-text-requires returns)
