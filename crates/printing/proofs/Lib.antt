@@ -2,3 +2,4 @@ pub mod Places
 pub mod Decimals
 pub mod Slots
 pub mod Texts
+pub mod FieldByField

@@ -1,8 +1,9 @@
 -- What settle_book prints (document 01, example M): 'date and s, points, slot totals in order, then the closing figures'; 'a refused book
 -- prints one line'.
+use mathlib.Core.Path.{_≡_}
 use mathlib.Core.Bool.{Bool, cond}
 use mathlib.Core.List.{List, [], _∷_, _++_}
-use Prim.Native.Nat.{ℕ, suc}
+use Prim.Native.Nat.{ℕ, suc, _≤_}
 use Prim.Native.String.{String}
 use lib.Dec.{eqb}
 use lib.IntN.{ℤ}
@@ -13,6 +14,7 @@ use Rattle.figures.specs.declared.Figures.{Figures}
 use Rattle.book.specs.Reading.{readBook}
 use Rattle.book.specs.Endings.{bookEnding}
 use Rattle.book.specs.declared.Ending.{Ending}
+use Rattle.feeding.specs.Feeding.{startOf, fed, endingFed, mostFeedings}
 use Rattle.printing.specs.Ascii.{ascii}
 use Rattle.printing.specs.Numerals.{decimal, twoDigits, signed}
 
@@ -70,3 +72,7 @@ textOf ending =
 -- the text of a book
 abbrev pub bookText : List ℕ → List ℕ
 bookText book = textOf (bookEnding (readBook book))
+
+-- PRINTED FIELD BY FIELD: a book that is fed so has the text of the whole book
+abbrev pub PrintedFieldByField : Type 0
+PrintedFieldByField = (book : List ℕ) (n : ℕ) → mostFeedings ≤ n → textOf (endingFed (fed n startOf book)) ≡ bookText book

@@ -7,14 +7,11 @@ use lib.ListN.{replicate}
 use Rattle.numbers.specs.Lists.{gather}
 use Rattle.numbers.specs.Words.{bytesOf}
 use Rattle.fields.specs.Fields.{written}
+use Rattle.worked_examples.specs.Examples.{head}
 use Rattle.printing.specs.Ascii.{ascii}
 use Rattle.printing.specs.Printed.{line, bookText}
 
--- 2024-08-07, s 26, losses 700, 400, 200, contract 1,000, count 1
-abbrev pub head : List ℕ
-head = bytesOf 2 2024 ++ 8 ∷ 7 ∷ 26 ∷ bytesOf 2 700 ++ bytesOf 2 400 ++ bytesOf 2 200 ++ bytesOf 4 1_000 ++ bytesOf 2 1
-
--- generator 0000000000000000000001, baseline 0, six readings of 550,000
+-- generator 0000000000000000000001, baseline 0, six readings of 550,000; M's head is that of H
 abbrev pub generator : List ℕ
 generator = ascii "0000000000000000000001" ++ bytesOf 4 0 ++ gather (bytesOf 4) (replicate 6 550_000)
 
