@@ -1,5 +1,4 @@
-pub mod Places
-pub mod Decimals
 pub mod Slots
 pub mod Texts
+pub mod Fronts
 pub mod FieldByField

@@ -7,11 +7,11 @@ use native.Mathlib.Numerals.{add-one}
 use native.Mathlib.Omega.{arith}
 use lib.IntN.{ℤ, pos}
 use lib.ListN.{length, getD, take}
-use Rattle.printing.specs.Ascii.{ascii}
-use Rattle.printing.specs.Numerals.{decimal, signed}
-use Rattle.printing.specs.Placing.{Placed}
+use Rattle.lines.specs.Ascii.{ascii}
+use Rattle.lines.specs.Numerals.{decimal, signed}
+use Rattle.lines.specs.Placing.{Placed}
 use Rattle.printing.specs.Printed.{line, slotLines}
-use Rattle.printing.proofs.Places.{named}
+use Rattle.lines.proofs.Places.{named}
 
 -- the line of one slot
 abbrev pub slotLine : ℕ → ℤ → List ℕ

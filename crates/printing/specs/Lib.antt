@@ -1,4 +1,1 @@
-pub mod Ascii
-pub mod Numerals
-pub mod Placing
 pub mod Printed

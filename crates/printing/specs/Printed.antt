@@ -15,8 +15,8 @@ use Rattle.book.specs.Reading.{readBook}
 use Rattle.book.specs.Endings.{bookEnding}
 use Rattle.book.specs.declared.Ending.{Ending}
 use Rattle.feeding.specs.Feeding.{startOf, fed, endingFed, mostFeedings}
-use Rattle.printing.specs.Ascii.{ascii}
-use Rattle.printing.specs.Numerals.{decimal, twoDigits, signed}
+use Rattle.lines.specs.Ascii.{ascii}
+use Rattle.lines.specs.Numerals.{decimal, twoDigits, signed}
 
 -- a name, what is told, the line's end
 abbrev pub line : String → List ℕ → List ℕ

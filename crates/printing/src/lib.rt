@@ -5,22 +5,20 @@ ghost use lib.ListN.{length};
 ghost use Rattle.io.specs.Counts.{Counts};
 ghost use Rattle.fields.specs.Writing.{atFront};
 ghost use Rattle.ledger.specs.Operations.{closeOf};
-ghost use Rattle.printing.specs.Placing.{Placed};
+ghost use Rattle.lines.specs.Placing.{Placed};
 ghost use Rattle.printing.specs.Printed.{dashed, date, dateLine, slotLines, settledLines, bidLine, capacityLines, settledText, textOf};
 use book::Ending;
 use figures::Figures;
 use heads::Head;
 use ledger::State;
 
-mod putting;
-
 fn put_dashed(number: u8, at: usize, out: &mut [u8]) -> usize
     requires { ⌜ at + 22 ≤ length (now out) ⌝ }
     ensures { λ r. ⌜ Placed (dashed number) at (now (out .entry)) r (now (out .exit)) ⌝ }
     ensures { λ r. ⌜ r ≤ at + 22 ⌝ }
 {
-    let dash = putting::put(b"-", at, out);
-    putting::put_two_digits(number, dash, out)
+    let dash = lines::put(b"-", at, out);
+    lines::put_two_digits(number, dash, out)
 }
 
 fn put_date(head: Head, at: usize, out: &mut [u8]) -> usize
@@ -28,7 +26,7 @@ fn put_date(head: Head, at: usize, out: &mut [u8]) -> usize
     ensures { λ r. ⌜ Placed (date head) at (now (out .entry)) r (now (out .exit)) ⌝ }
     ensures { λ r. ⌜ r ≤ at + 64 ⌝ }
 {
-    let year = putting::put_number(head.year as u64, at, out);
+    let year = lines::put_number(head.year as u64, at, out);
     let month = put_dashed(head.month, year, out);
     put_dashed(head.day, month, out)
 }
@@ -38,9 +36,9 @@ fn put_date_line(head: Head, at: usize, out: &mut [u8]) -> usize
     ensures { λ r. ⌜ Placed (dateLine head) at (now (out .entry)) r (now (out .exit)) ⌝ }
     ensures { λ r. ⌜ r ≤ at + 96 ⌝ }
 {
-    let named = putting::put(b"date ", at, out);
+    let named = lines::put(b"date ", at, out);
     let dated = put_date(head, named, out);
-    putting::put_line(b" slot ", head.slot as u64, dated, out)
+    lines::put_line(b" slot ", head.slot as u64, dated, out)
 }
 
 fn put_slots(totals: [i64; 6], at: usize, out: &mut [u8]) -> usize
@@ -51,9 +49,9 @@ fn put_slots(totals: [i64; 6], at: usize, out: &mut [u8]) -> usize
     let mut end = at;
     let mut i: usize = 0;
     while i < 6 {
-        let named = putting::put(b"slot ", end, out);
-        let numbered = putting::put_number((i + 1) as u64, named, out);
-        end = putting::put_signed_line(b" ", totals[i], numbered, out);
+        let named = lines::put(b"slot ", end, out);
+        let numbered = lines::put_number((i + 1) as u64, named, out);
+        end = lines::put_signed_line(b" ", totals[i], numbered, out);
         i += 1;
     }
     end
@@ -64,9 +62,9 @@ fn put_settled_lines(figures: Figures, at: usize, out: &mut [u8]) -> usize
     ensures { λ r. ⌜ Placed (settledLines figures) at (now (out .entry)) r (now (out .exit)) ⌝ }
     ensures { λ r. ⌜ r ≤ at + 89 ⌝ }
 {
-    let total = putting::put_signed_line(b"total ", figures.total, at, out);
-    let settled = putting::put_signed_line(b"settled ", figures.settled, total, out);
-    putting::put_line(b"shortfall ", figures.shortfall, settled, out)
+    let total = lines::put_signed_line(b"total ", figures.total, at, out);
+    let settled = lines::put_signed_line(b"settled ", figures.settled, total, out);
+    lines::put_line(b"shortfall ", figures.shortfall, settled, out)
 }
 
 fn put_bid(bid: bool, at: usize, out: &mut [u8]) -> usize
@@ -74,18 +72,18 @@ fn put_bid(bid: bool, at: usize, out: &mut [u8]) -> usize
     ensures { λ r. ⌜ Placed (bidLine bid) at (now (out .entry)) r (now (out .exit)) ⌝ }
 {
     if bid {
-        return putting::put(b"bid yes\n", at, out);
+        return lines::put(b"bid yes\n", at, out);
     }
-    putting::put(b"bid no\n", at, out)
+    lines::put(b"bid no\n", at, out)
 }
 
 fn put_capacity_lines(figures: Figures, at: usize, out: &mut [u8]) -> usize
     requires { ⌜ at + 93 ≤ length (now out) ⌝ }
     ensures { λ r. ⌜ Placed (capacityLines figures) at (now (out .entry)) r (now (out .exit)) ⌝ }
 {
-    let expected = putting::put_line(b"expected ", figures.expected, at, out);
-    let kept = putting::put_line(b"kept ", figures.kept, expected, out);
-    let surplus = putting::put_line(b"surplus ", figures.surplus, kept, out);
+    let expected = lines::put_line(b"expected ", figures.expected, at, out);
+    let kept = lines::put_line(b"kept ", figures.kept, expected, out);
+    let surplus = lines::put_line(b"surplus ", figures.surplus, kept, out);
     put_bid(figures.bid, surplus, out)
 }
 
@@ -98,7 +96,7 @@ fn put_settled(state: State, at: usize, out: &mut [u8]) -> usize
     let head = state.head;
     let totals = state.totals;
     let dated = put_date_line(head, at, out);
-    let counted = putting::put_line(b"points ", figures.points as u64, dated, out);
+    let counted = lines::put_line(b"points ", figures.points as u64, dated, out);
     let slots = put_slots(totals, counted, out);
     let settled = put_settled_lines(figures, slots, out);
     put_capacity_lines(figures, settled, out)
@@ -112,7 +110,7 @@ pub fn write_text(ending: Ending, out: &mut [u8; 640]) -> usize
     let refusal = ending.refusal;
     let state = ending.state;
     if refusal != heads::refusals::ACCEPTED {
-        return putting::put_line(b"refused ", refusal as u64, 0, out);
+        return lines::put_line(b"refused ", refusal as u64, 0, out);
     }
     put_settled(state, 0, out)
 }

@@ -14,7 +14,7 @@ use Rattle.figures.specs.Figures.{figuresOf}
 use Rattle.ledger.specs.Operations.{openOf, addingRefusal, addOf, closingRefusal, closeOf}
 use Rattle.fields.specs.Fields.{fieldRefusal, fieldOf}
 use Rattle.book.specs.Reading.{readPoints, readBook}
-use Rattle.printing.specs.Numerals.{digitsOf}
+use Rattle.lines.specs.Numerals.{digitsOf}
 use Rattle.printing.specs.Printed.{slotLines, textOf}
 use Rattle.worked_examples.specs.ExampleM.{ExampleM, EmptyBook}
 

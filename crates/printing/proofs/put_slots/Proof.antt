@@ -9,10 +9,10 @@ use lib.ListN.{length, getD, take}
 use lib.Seq.{take-all}
 use borrow.Author.Needs.{needs}
 use Rattle.book.proofs.Results.{word-back}
-use Rattle.printing.specs.Numerals.{signed}
-use Rattle.printing.specs.Placing.{Placed}
+use Rattle.lines.specs.Numerals.{signed}
+use Rattle.lines.specs.Placing.{Placed}
 use Rattle.printing.specs.Printed.{line, slotLines}
-use Rattle.printing.proofs.Places.{then, named, nothing}
+use Rattle.lines.proofs.Places.{then, named, nothing}
 use Rattle.printing.proofs.Slots.{slots-none, slot-placed}
 use Rattle.printing.proofs.put_slots.Statement.{statement}
 use Rattle.printing.proofs.put_slots.Tie as tie

@@ -1,6 +1,7 @@
 -- The one line of a refused book, or the lines of a settled one.
 use native.Mathlib.Omega.{arith}
-use Rattle.printing.proofs.Places.{named, front-end, front-bytes, front-counts}
+use Rattle.lines.proofs.Places.{named}
+use Rattle.printing.proofs.Fronts.{front-end, front-bytes, front-counts}
 use Rattle.printing.proofs.Texts.{text-refused, text-settled}
 use borrow.Author.Needs.{needs}
 use Rattle.printing.proofs.write_text.Statement.{statement}

@@ -2,10 +2,10 @@
 use mathlib.Core.Path.{_∙_}
 use native.Mathlib.Omega.{arith}
 use borrow.Author.Needs.{needs}
-use Rattle.printing.proofs.Decimals.{few, spelled}
-use Rattle.printing.proofs.Places.{named}
-use Rattle.printing.proofs.putting.put_number.Statement.{statement}
-use Rattle.printing.proofs.putting.put_number.Tie as tie
+use Rattle.lines.proofs.Decimals.{few, spelled}
+use Rattle.lines.proofs.Places.{named}
+use Rattle.lines.proofs.put_number.Statement.{statement}
+use Rattle.lines.proofs.put_number.Tie as tie
 
 decimal-requires : tie.Need-decimal-requires
 decimal-requires c κs = search needs

@@ -1,8 +1,8 @@
-use Rattle.printing.proofs.Decimals.{with-minus, without-minus}
-use Rattle.printing.proofs.Places.{then, named}
+use Rattle.lines.proofs.Decimals.{with-minus, without-minus}
+use Rattle.lines.proofs.Places.{then, named}
 use borrow.Author.Needs.{needs}
-use Rattle.printing.proofs.putting.put_signed.Statement.{statement}
-use Rattle.printing.proofs.putting.put_signed.Tie as tie
+use Rattle.lines.proofs.put_signed.Statement.{statement}
+use Rattle.lines.proofs.put_signed.Tie as tie
 
 size-of-requires : tie.Need-size-of-requires
 size-of-requires c κs = search needs

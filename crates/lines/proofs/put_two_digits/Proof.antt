@@ -1,8 +1,8 @@
-use Rattle.printing.proofs.Decimals.{with-zero, without-zero}
-use Rattle.printing.proofs.Places.{then, named}
+use Rattle.lines.proofs.Decimals.{with-zero, without-zero}
+use Rattle.lines.proofs.Places.{then, named}
 use borrow.Author.Needs.{needs}
-use Rattle.printing.proofs.putting.put_two_digits.Statement.{statement}
-use Rattle.printing.proofs.putting.put_two_digits.Tie as tie
+use Rattle.lines.proofs.put_two_digits.Statement.{statement}
+use Rattle.lines.proofs.put_two_digits.Tie as tie
 
 slice-aggregate-put : tie.Need-slice-aggregate-put
 slice-aggregate-put c = search needs

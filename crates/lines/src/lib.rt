@@ -2,11 +2,11 @@
 ghost use mathlib.Core.List.{_++_};
 ghost use Prim.Native.Nat.{_+_, _≤_};
 ghost use lib.ListN.{length};
-ghost use Rattle.printing.specs.Ascii.{ascii};
-ghost use Rattle.printing.specs.Numerals.{decimal, twoDigits, signed};
-ghost use Rattle.printing.specs.Placing.{Placed};
+ghost use Rattle.lines.specs.Ascii.{ascii};
+ghost use Rattle.lines.specs.Numerals.{decimal, twoDigits, signed};
+ghost use Rattle.lines.specs.Placing.{Placed};
 
-pub(crate) fn put(text: &[u8], at: usize, out: &mut [u8]) -> usize
+pub fn put(text: &[u8], at: usize, out: &mut [u8]) -> usize
     requires { ⌜ at + length (now text) ≤ length (now out) ⌝ }
     ensures { λ r. ⌜ Placed (now (text .entry)) at (now (out .entry)) r (now (out .exit)) ⌝ }
 {
@@ -19,7 +19,7 @@ pub(crate) fn put(text: &[u8], at: usize, out: &mut [u8]) -> usize
     at + size
 }
 
-pub(crate) fn put_number(number: u64, at: usize, out: &mut [u8]) -> usize
+pub fn put_number(number: u64, at: usize, out: &mut [u8]) -> usize
     requires { ⌜ at + 20 ≤ length (now out) ⌝ }
     ensures { λ r. ⌜ Placed (decimal number) at (now (out .entry)) r (now (out .exit)) ⌝ }
     ensures { λ r. ⌜ r ≤ at + 20 ⌝ }
@@ -30,7 +30,7 @@ pub(crate) fn put_number(number: u64, at: usize, out: &mut [u8]) -> usize
 }
 
 // A month or a day: always two digits.
-pub(crate) fn put_two_digits(number: u8, at: usize, out: &mut [u8]) -> usize
+pub fn put_two_digits(number: u8, at: usize, out: &mut [u8]) -> usize
     requires { ⌜ at + 21 ≤ length (now out) ⌝ }
     ensures { λ r. ⌜ Placed (twoDigits number) at (now (out .entry)) r (now (out .exit)) ⌝ }
     ensures { λ r. ⌜ r ≤ at + 21 ⌝ }
@@ -42,7 +42,7 @@ pub(crate) fn put_two_digits(number: u8, at: usize, out: &mut [u8]) -> usize
     put_number(number as u64, at, out)
 }
 
-pub(crate) fn put_signed(number: i64, at: usize, out: &mut [u8]) -> usize
+pub fn put_signed(number: i64, at: usize, out: &mut [u8]) -> usize
     requires { ⌜ at + 21 ≤ length (now out) ⌝ }
     ensures { λ r. ⌜ Placed (signed number) at (now (out .entry)) r (now (out .exit)) ⌝ }
     ensures { λ r. ⌜ r ≤ at + 21 ⌝ }
@@ -56,7 +56,7 @@ pub(crate) fn put_signed(number: i64, at: usize, out: &mut [u8]) -> usize
 }
 
 // A name, a number, the line's end.
-pub(crate) fn put_line(name: &[u8], number: u64, at: usize, out: &mut [u8]) -> usize
+pub fn put_line(name: &[u8], number: u64, at: usize, out: &mut [u8]) -> usize
     requires { ⌜ at + (length (now name) + 21) ≤ length (now out) ⌝ }
     ensures { λ r. ⌜ Placed (now (name .entry) ++ (decimal number ++ ascii "\n")) at (now (out .entry)) r (now (out .exit)) ⌝ }
     ensures { λ r. ⌜ r ≤ at + (length (now (name .entry)) + 21) ⌝ }
@@ -66,7 +66,7 @@ pub(crate) fn put_line(name: &[u8], number: u64, at: usize, out: &mut [u8]) -> u
     put(b"\n", told, out)
 }
 
-pub(crate) fn put_signed_line(name: &[u8], number: i64, at: usize, out: &mut [u8]) -> usize
+pub fn put_signed_line(name: &[u8], number: i64, at: usize, out: &mut [u8]) -> usize
     requires { ⌜ at + (length (now name) + 22) ≤ length (now out) ⌝ }
     ensures { λ r. ⌜ Placed (now (name .entry) ++ (signed number ++ ascii "\n")) at (now (out .entry)) r (now (out .exit)) ⌝ }
     ensures { λ r. ⌜ r ≤ at + (length (now (name .entry)) + 22) ⌝ }

@@ -1,14 +1,11 @@
 -- Text put behind text is one text. Assumes nothing.
-use mathlib.Core.Path.{_≡_, refl, sym, ap, ap₂, _∙_, subst}
+use mathlib.Core.Path.{_≡_, sym, ap, _∙_, subst}
 use mathlib.Core.List.{List, [], _++_, append-assoc}
 use Prim.Native.Nat.{ℕ, _+_, _≤_}
-use native.Mathlib.Nat.{zero-add}
 use native.Mathlib.Omega.{arith}
 use lib.ListN.{length, take, drop, length-append, length-drop}
 use lib.Seq.{paste, paste-zero, length-take-le, take-length, take-at, drop-at, drop-drop}
-use Rattle.io.specs.Counts.{Counts}
-use Rattle.fields.specs.Writing.{atFront}
-use Rattle.printing.specs.Placing.{placed, Placed}
+use Rattle.lines.specs.Placing.{placed, Placed}
 
 -- ---- what a copying loop leaves
 
@@ -63,16 +60,3 @@ nothing at out h = record { ends = omega arith; within = h; bytes = paste-zero o
 -- the same text by another name
 pub named : {text same : List ℕ} {at end : ℕ} {out after : List ℕ} → text ≡ same → Placed text at out end after → Placed same at out end after
 named {at = at} {end} {out} {after} e p = subst (λ t. Placed t at out end after) e p
-
--- at the front
-module _ {text out after : List ℕ} {end : ℕ} (p : Placed text 0 out end after) where
-  pub front-end : end ≡ length text
-  front-end = omega (arith, p .ends)
-
-  pub front-bytes : after ≡ atFront text out
-  front-bytes = p .bytes ∙ ap (λ (k : ℕ). text ++ drop k out) (zero-add (length text))
-
-  pub front-counts : Counts end after
-  front-counts =
-      let e : take end after ≡ text = ap₂ take front-end front-bytes ∙ take-at text (drop (length text) out) (length text) refl in
-      (omega (arith, front-end, ap length front-bytes ∙ length-append text (drop (length text) out)), front-end ∙ sym (ap length e))

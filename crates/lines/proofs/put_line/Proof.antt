@@ -1,7 +1,7 @@
-use Rattle.printing.proofs.Places.{then}
+use Rattle.lines.proofs.Places.{then}
 use borrow.Author.Needs.{needs}
-use Rattle.printing.proofs.putting.put_line.Statement.{statement}
-use Rattle.printing.proofs.putting.put_line.Tie as tie
+use Rattle.lines.proofs.put_line.Statement.{statement}
+use Rattle.lines.proofs.put_line.Tie as tie
 
 put-requires : tie.Need-put-requires
 put-requires c κs = search needs

@@ -13,8 +13,8 @@ use mir.Facts.{toZ-ofZ}
 use borrow.Author.Tests.{lt-ltb, le-ltb}
 use Rattle.io.specs.Digits.{digits, glyph, Fewest}
 use Rattle.integers.proofs.Machine.{is-negative, is-positive}
-use Rattle.printing.specs.Ascii.{ascii}
-use Rattle.printing.specs.Numerals.{digitsOf, decimal, twoDigits, signed}
+use Rattle.lines.specs.Ascii.{ascii}
+use Rattle.lines.specs.Numerals.{digitsOf, decimal, twoDigits, signed}
 
 last-digit : (n : ℕ) → glyph (n % 10) ≡ 48 + n % 10
 last-digit n = rw (lt-ltb (n % 10) 10 (mod-lt n (zero-lt-suc 9))) refl

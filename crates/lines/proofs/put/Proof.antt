@@ -6,9 +6,9 @@ use native.Mathlib.Omega.{arith}
 use lib.ListN.{length, getD, set}
 use lib.Seq.{paste, paste-zero, paste-suc, length-paste}
 use borrow.Author.Needs.{needs}
-use Rattle.printing.proofs.Places.{pasted}
-use Rattle.printing.proofs.putting.put.Statement.{statement}
-use Rattle.printing.proofs.putting.put.Tie as tie
+use Rattle.lines.proofs.Places.{pasted}
+use Rattle.lines.proofs.put.Statement.{statement}
+use Rattle.lines.proofs.put.Tie as tie
 
 abbrev Inv-loop : tie.InvT-loop
 Inv-loop text at out₀ size i₀ out i = (i ≤ size) × (size ≡ length text) × (at + size ≤ length out₀) × (out ≡ paste out₀ at text i)

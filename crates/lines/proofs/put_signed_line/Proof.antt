@@ -1,10 +1,10 @@
 use mathlib.Core.Path.{ap}
 use mir.Facts.{toZ-ofZ}
-use Rattle.printing.specs.Numerals.{signed}
-use Rattle.printing.proofs.Places.{then, named}
+use Rattle.lines.specs.Numerals.{signed}
+use Rattle.lines.proofs.Places.{then, named}
 use borrow.Author.Needs.{needs}
-use Rattle.printing.proofs.putting.put_signed_line.Statement.{statement}
-use Rattle.printing.proofs.putting.put_signed_line.Tie as tie
+use Rattle.lines.proofs.put_signed_line.Statement.{statement}
+use Rattle.lines.proofs.put_signed_line.Tie as tie
 
 put-requires : tie.Need-put-requires
 put-requires c κs = search needs

@@ -4,7 +4,7 @@ use mathlib.Core.List.{List, [], _∷_, _++_}
 use Prim.Native.Nat.{ℕ, zero, suc, _+_, _/_, _%_}
 use lib.Dec.{ltb}
 use lib.IntN.{ℤ, pos, negsuc}
-use Rattle.printing.specs.Ascii.{ascii}
+use Rattle.lines.specs.Ascii.{ascii}
 
 -- at most n digits
 unfoldable pub digitsOf : ℕ → ℕ → List ℕ
