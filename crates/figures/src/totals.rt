@@ -14,10 +14,10 @@ pub fn add_totals(totals: [i64; 6], found: [i64; 6]) -> [i64; 6]
     ensures { λ r. ⌜ r ≡ plus totals found ⌝ }
 {
     let mut sums = totals;
-    let mut i: usize = 0;
-    while i < 6 {
-        sums[i] = integers::add_bounded(totals[i], found[i]);
-        i += 1;
+    let mut slot: usize = 0;
+    while slot < 6 {
+        sums[slot] = integers::add_bounded(totals[slot], found[slot]);
+        slot += 1;
     }
     sums
 }
@@ -27,10 +27,10 @@ pub fn put(places: &mut [i64], found: [i64; 6])
     requires { ⌜ length (now places) ≡ 6 ⌝ }
     ensures { λ _. ⌜ now (places .exit) ≡ found ⌝ }
 {
-    let mut i: usize = 0;
-    while i < 6 {
-        places[i] = found[i];
-        i += 1;
+    let mut place: usize = 0;
+    while place < 6 {
+        places[place] = found[place];
+        place += 1;
     }
 }
 

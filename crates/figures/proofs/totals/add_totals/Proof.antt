@@ -13,10 +13,10 @@ use Rattle.figures.proofs.totals.add_totals.Statement.{statement}
 use Rattle.figures.proofs.totals.add_totals.Tie as tie
 
 abbrev Inv-loop : tie.InvT-loop
-Inv-loop totals found sums₀ i₀ sums i = (i ≤ 6) × (length totals ≡ 6) × (length found ≡ 6) × (length (plus totals found) ≡ 6) × (sums ≡ front totals (plus totals found) i)
+Inv-loop totals found sums₀ slot₀ sums slot = (slot ≤ 6) × (length totals ≡ 6) × (length found ≡ 6) × (length (plus totals found) ≡ 6) × (sums ≡ front totals (plus totals found) slot)
 
 abbrev μ-loop : tie.MeasureT-loop
-μ-loop totals found sums₀ i₀ sums i = 6 - i
+μ-loop totals found sums₀ slot₀ sums slot = 6 - slot
 
 loop-holds : tie.Need-loop-holds Inv-loop μ-loop
 loop-holds c =
@@ -39,7 +39,7 @@ array-copy-out-add-bounded-2 c = search needs
 add-bounded-requires : tie.Need-add-bounded-requires Inv-loop μ-loop
 add-bounded-requires c κs =
     let s = c .before .before .before .before in
-    rw (toZ-ofZ (sfits-of (c .before .add-bounded-arg .given)), toZ-ofZ (sfits-of (c .add-bounded-arg2 .given))) (s .pre (c .before .before .before .loop .i))
+    rw (toZ-ofZ (sfits-of (c .before .add-bounded-arg .given)), toZ-ofZ (sfits-of (c .add-bounded-arg2 .given))) (s .pre (c .before .before .before .loop .slot))
 
 mul-sums : tie.Need-mul-sums Inv-loop μ-loop
 mul-sums c = search needs
@@ -47,8 +47,8 @@ mul-sums c = search needs
 array-set-from-sums : tie.Need-array-set-from-sums Inv-loop μ-loop
 array-set-from-sums c = search needs
 
-add-i : tie.Need-add-i Inv-loop μ-loop
-add-i c = search needs
+add-slot : tie.Need-add-slot Inv-loop μ-loop
+add-slot c = search needs
 
 loop-less : tie.Need-loop-less Inv-loop μ-loop
 loop-less c = search needs
@@ -57,14 +57,14 @@ loop-again : tie.Need-loop-again Inv-loop μ-loop
 loop-again c =
     let l = c .before .before .before .before .loop in
     let s = c .before .before .before .before .before in
-    let e : c .add-bounded .result ≡ getD (plus (s .args .t1) (s .args .t2)) (l .i) (pos 0) =
+    let e : c .add-bounded .result ≡ getD (plus (s .args .t1) (s .args .t2)) (l .slot) (pos 0) =
     c .add-bounded .ensures
     ∙ rw (toZ-ofZ (sfits-of (c .before .before .add-bounded-arg .given)), toZ-ofZ (sfits-of (c .before .add-bounded-arg2 .given)))
-    (sym (plus-at _ _ (l .i) (omega arith) (omega arith))) in
-    (omega arith, l .inv .1, l .inv .2, l .inv .3, rw (toZ-ofZ (sfits-of (c .add-bounded .ok)), l .inv .4, e) (front-more _ _ (l .i) (pos 0) (omega arith) (omega arith)))
+    (sym (plus-at _ _ (l .slot) (omega arith) (omega arith))) in
+    (omega arith, l .inv .1, l .inv .2, l .inv .3, rw (toZ-ofZ (sfits-of (c .add-bounded .ok)), l .inv .4, e) (front-more _ _ (l .slot) (pos 0) (omega arith) (omega arith)))
 
 returns : tie.Need-returns Inv-loop μ-loop
-returns c = let l = c .before .loop in l .inv .4 ∙ front-all _ _ (l .i) (omega arith) (omega arith)
+returns c = let l = c .before .loop in l .inv .4 ∙ front-all _ _ (l .slot) (omega arith) (omega arith)
 
 pub add-totals-spec : {M : Type 1} → statement M
 add-totals-spec =
@@ -80,7 +80,7 @@ add-totals-spec =
     add-bounded-requires
     mul-sums
     array-set-from-sums
-    add-i
+    add-slot
     loop-less
     loop-again
     returns)

@@ -11,10 +11,10 @@ use Rattle.figures.proofs.totals.put.Statement.{statement}
 use Rattle.figures.proofs.totals.put.Tie as tie
 
 abbrev Inv-loop : tie.InvT-loop
-Inv-loop places₀ found i₀ places i = (i ≤ 6) × (length found ≡ 6) × (length places₀ ≡ 6) × (places ≡ front places₀ found i)
+Inv-loop places₀ found place₀ places place = (place ≤ 6) × (length found ≡ 6) × (length places₀ ≡ 6) × (places ≡ front places₀ found place)
 
 abbrev μ-loop : tie.MeasureT-loop
-μ-loop places₀ found i₀ places i = 6 - i
+μ-loop places₀ found place₀ places place = 6 - place
 
 loop-holds : tie.Need-loop-holds Inv-loop μ-loop
 loop-holds c = (search needs, search needs, search needs, refl)
@@ -29,10 +29,10 @@ mul-t10 : tie.Need-mul-t10 Inv-loop μ-loop
 mul-t10 c = search needs
 
 slice-set-from-places : tie.Need-slice-set-from-places Inv-loop μ-loop
-slice-set-from-places c = let l = c .before .before .loop in omega (arith, ap length (l .inv .3) ∙ front-length _ _ (l .i) (omega arith) (omega arith))
+slice-set-from-places c = let l = c .before .before .loop in omega (arith, ap length (l .inv .3) ∙ front-length _ _ (l .place) (omega arith) (omega arith))
 
-add-i : tie.Need-add-i Inv-loop μ-loop
-add-i c = search needs
+add-place : tie.Need-add-place Inv-loop μ-loop
+add-place c = search needs
 
 loop-less : tie.Need-loop-less Inv-loop μ-loop
 loop-less c = search needs
@@ -40,13 +40,13 @@ loop-less c = search needs
 loop-again : tie.Need-loop-again Inv-loop μ-loop
 loop-again c =
     let l = c .before .before .loop in
-    (omega arith, l .inv .1, l .inv .2, rw (toZ-ofZ (sfits-of (c .places .given)), l .inv .3) (front-more _ _ (l .i) (pos 0) (omega arith) (omega arith)))
+    (omega arith, l .inv .1, l .inv .2, rw (toZ-ofZ (sfits-of (c .places .given)), l .inv .3) (front-more _ _ (l .place) (pos 0) (omega arith) (omega arith)))
 
 same-length : tie.Need-same-length Inv-loop μ-loop
-same-length c = let l = c .before .loop in ap length (l .inv .3) ∙ front-length _ _ (l .i) (omega arith) (omega arith)
+same-length c = let l = c .before .loop in ap length (l .inv .3) ∙ front-length _ _ (l .place) (omega arith) (omega arith)
 
 returns : tie.Need-returns Inv-loop μ-loop
-returns c = let l = c .before .loop in l .inv .3 ∙ front-all _ _ (l .i) (omega arith) (omega arith)
+returns c = let l = c .before .loop in l .inv .3 ∙ front-all _ _ (l .place) (omega arith) (omega arith)
 
 pub put-spec : {M : Type 1} → statement M
 put-spec =
@@ -59,7 +59,7 @@ put-spec =
     array-copy-out-places
     mul-t10
     slice-set-from-places
-    add-i
+    add-place
     loop-less
     loop-again
     same-length
