@@ -1,7 +1,5 @@
 // Reads single calls of the ledger on standard input, makes each and prints its whole answer on a line.
 // docs/VECTORS.md has the form of both.
-use crate::parts::Input;
-
 mod calls;
 mod faults;
 mod parts;
@@ -21,12 +19,14 @@ const WRITING_POINT: u8 = 5;
 // One call: whether to go on.
 fn answer_call() -> bool {
     let mut kind = [0u8; 1];
-    let input = parts::fill(&mut kind);
-    match input {
-        Input::Whole => make_call(kind[0]),
-        Input::Ended => false,
-        Input::Failed => faults::unread(),
+    let got = input::fill(&mut kind);
+    if got.failed {
+        return faults::unread();
     }
+    if got.count == 0 {
+        return false;
+    }
+    make_call(kind[0])
 }
 
 // The call of a kind: whether it was read, made and answered; where not, the fault was told.

@@ -7,14 +7,6 @@ ghost use Rattle.call_vectors.specs.Parts.{signedOf, signedAt, signedIn,
 use crate::faults;
 use heads::Head;
 use ledger::State;
-use libc::STDIN_FILENO;
-
-// What came of filling some bytes: the input may end before them or among them, and a read may fail.
-pub enum Input {
-    Whole,
-    Ended,
-    Failed,
-}
 
 // A part with its length in front; a part that is not whole has no length.
 pub struct Part {
@@ -22,35 +14,18 @@ pub struct Part {
     pub length: usize,
 }
 
-// Fills the bytes from standard input.
-pub fn fill(bytes: &mut [u8]) -> Input
-    ensures { λ _. ⌜ length (now (bytes .exit)) ≡ length (now (bytes .entry)) ⌝ }
-{
-    let mut done: usize = 0;
-    while done < bytes.len() {
-        let got = libc::read(STDIN_FILENO, &mut bytes[done..]);
-        if got < 0 {
-            return Input::Failed;
-        }
-        let more = io::count(got, &bytes[done..]);
-        if more == 0 {
-            return Input::Ended;
-        }
-        done += more;
-    }
-    Input::Whole
-}
-
 // Fills the bytes in the middle of a call: whether as many were there; where not, the fault was told.
 pub fn read_bytes(bytes: &mut [u8]) -> bool
     ensures { λ _. ⌜ length (now (bytes .exit)) ≡ length (now (bytes .entry)) ⌝ }
 {
-    let input = fill(bytes);
-    match input {
-        Input::Whole => true,
-        Input::Ended => faults::cut(),
-        Input::Failed => faults::unread(),
+    let got = input::fill(bytes);
+    if got.failed {
+        return faults::unread();
     }
+    if got.count < bytes.len() {
+        return faults::cut();
+    }
+    true
 }
 
 // A length of two bytes and as many bytes, which go to the front of the room; a part with no room is cut.

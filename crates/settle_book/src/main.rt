@@ -8,46 +8,19 @@ ghost use Rattle.feeding.specs.Feeding.{endingFed};
 ghost use Rattle.printing.specs.Printed.{textOf};
 use book::Ending;
 use feeding::Progress;
+use input::Got;
 use libc::STDERR_FILENO;
-use libc::STDIN_FILENO;
 use libc::STDOUT_FILENO;
 
 // Two feedings for the head, the calendar and each of at most 10,000 points, and one for the end.
 const MOST_FEEDINGS: u32 = 20005;
 
-// How many bytes came, fewer than asked for where the input ends; or a read that failed.
-struct Got {
-    count: usize,
-    failed: bool,
-}
-
-// Reads n bytes to the front of the buffer.
-fn read_bytes(buffer: &mut [u8], n: usize) -> Got
+// Fills the first n of the lent bytes.
+fn fill_front(buffer: &mut [u8], n: usize) -> Got
     requires { ⌜ n ≤ length (now buffer) ⌝ }
     ensures { λ r. ⌜ r .count ≤ n ⌝ }
 {
-    let mut done: usize = 0;
-    while done < n {
-        let got = libc::read(STDIN_FILENO, &mut buffer[done..n]);
-        if got < 0 {
-            return Got {
-                count: 0,
-                failed: true,
-            };
-        }
-        let more = io::count(got, &buffer[done..n]);
-        if more == 0 {
-            return Got {
-                count: done,
-                failed: false,
-            };
-        }
-        done += more;
-    }
-    Got {
-        count: done,
-        failed: false,
-    }
+    input::fill(&mut buffer[0..n])
 }
 
 // The text of a book that was fed to its end, at the front of the lent bytes, and how long it is.
@@ -80,7 +53,7 @@ fn main() {
     while 0 < turns {
         turns -= 1;
         let due = feeding::due(progress);
-        let got = read_bytes(&mut buffer, due);
+        let got = fill_front(&mut buffer, due);
         if got.failed {
             io::write_all(
                 STDERR_FILENO,

@@ -22,11 +22,11 @@ sub-turns c = search needs
 due-requires : tie.Need-due-requires Inv-loop μ-loop
 due-requires c κs = search needs
 
-slice-aggregate-read-bytes : tie.Need-slice-aggregate-read-bytes Inv-loop μ-loop
-slice-aggregate-read-bytes c = search needs
+slice-aggregate-fill-front : tie.Need-slice-aggregate-fill-front Inv-loop μ-loop
+slice-aggregate-fill-front c = search needs
 
-read-bytes-requires : tie.Need-read-bytes-requires Inv-loop μ-loop
-read-bytes-requires c κs = search needs
+fill-front-requires : tie.Need-fill-front-requires Inv-loop μ-loop
+fill-front-requires c κs = search needs
 
 slice-aggregate-write-all : tie.Need-slice-aggregate-write-all Inv-loop μ-loop
 slice-aggregate-write-all c = search needs
@@ -80,8 +80,8 @@ main-spec =
     loop-holds
     sub-turns
     due-requires
-    slice-aggregate-read-bytes
-    read-bytes-requires
+    slice-aggregate-fill-front
+    fill-front-requires
     slice-aggregate-write-all
     write-all-requires
     returns

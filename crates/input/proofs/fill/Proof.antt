@@ -4,8 +4,8 @@ use Prim.Native.Nat.{_≤_, _-_}
 use native.Mathlib.Omega.{arith}
 use lib.ListN.{length}
 use borrow.Author.Needs.{needs}
-use Rattle.call_vectors.proofs.parts.fill.Statement.{statement}
-use Rattle.call_vectors.proofs.parts.fill.Tie as tie
+use Rattle.input.proofs.fill.Statement.{statement}
+use Rattle.input.proofs.fill.Tie as tie
 
 abbrev Inv-loop : tie.InvT-loop
 Inv-loop bytes₀ done₀ bytes done = (done ≤ length bytes) × (length bytes ≡ length bytes₀)
@@ -46,12 +46,6 @@ part-count-end c = search needs
 count-requires : tie.Need-count-requires Inv-loop μ-loop
 count-requires c κs = search needs
 
-same-length-2 : tie.Need-same-length-2 Inv-loop μ-loop
-same-length-2 c = search needs
-
-returns-2 : tie.Need-returns-2 Inv-loop μ-loop
-returns-2 c = search needs
-
 add-done : tie.Need-add-done Inv-loop μ-loop
 add-done c = search needs
 
@@ -60,6 +54,12 @@ loop-less c = search needs
 
 loop-again : tie.Need-loop-again Inv-loop μ-loop
 loop-again c = search needs
+
+same-length-2 : tie.Need-same-length-2 Inv-loop μ-loop
+same-length-2 c = search needs
+
+returns-2 : tie.Need-returns-2 Inv-loop μ-loop
+returns-2 c = search needs
 
 same-length-3 : tie.Need-same-length-3 Inv-loop μ-loop
 same-length-3 c = search needs
@@ -84,10 +84,10 @@ fill-spec =
     part-count-start
     part-count-end
     count-requires
-    same-length-2
-    returns-2
     add-done
     loop-less
     loop-again
+    same-length-2
+    returns-2
     same-length-3
     returns-3)
