@@ -8,26 +8,17 @@ use borrow.Author.Tests.{ltb-true, ltb-false, le-ltb}
 use lib.Dec.{ltb}
 use lib.IntN.{ℤ, pos, negsuc}
 use lib.Signed.{mag}
-use mir.Syntax.{w64}
-use mir.Facts.{toZ-ofZ}
-use borrow.Author.Needs.{sfits-of}
 use lib.ListN.{length, getD, length-append, List·getD-append}
 use lib.Seq.{getD-append-add}
 use Rattle.numbers.specs.Lists.{gather}
-use Rattle.integers.specs.Integers.{sumℤ}
+use Rattle.integers.specs.Integers.{sumℤ, twosComplement}
 use Rattle.numbers.specs.Words.{bytesOf}
-use Rattle.integers.specs.Integers.{twosComplement}
 use Rattle.figures.specs.Figures.{settledOf, shortfallOf, expectedOf, figuresOf}
 use Rattle.ledger.specs.Operations.{closeOf}
 use Rattle.ledger.specs.declared.State.{State}
 use Rattle.figures.proofs.FigureSteps.{shortfall-above, shortfall-below}
 use Rattle.ledger.proofs.Sound.{close-refusal, close-good}
-use Rattle.integers.proofs.Machine.{back}
 use Rattle.book.specs.Results.{SmallWords, wordBytes}
-
--- a signed word reads back from its bits as it was
-pub word-back : (z : ℤ) → mag z < 2 ^ 63 → back w64 z ≡ z
-word-back z h = toZ-ofZ {w = w64} (sfits-of h)
 
 abbrev wordOf : ℤ → List ℕ
 wordOf word = bytesOf 8 (twosComplement word)

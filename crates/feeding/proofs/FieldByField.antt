@@ -14,9 +14,8 @@ use Rattle.heads.specs.Heads.{headOf, openingRefusal}
 use Rattle.ledger.specs.States.{noState, opened, taken}
 use Rattle.ledger.specs.Operations.{openOf, addOf, resultsOf}
 use Rattle.ledger.specs.declared.State.{State}
-use Rattle.heads.proofs.Opening.{opening-content}
+use Rattle.heads.proofs.Opening.{opening-content, opens}
 use Rattle.ledger.proofs.Sound.{open-refusal, open-good, add-refusal, add-good}
-use Rattle.heads.proofs.Opening.{opens}
 use Rattle.fields.specs.Fields.{tagAt, lengthDue, fieldOf, valueIn, behind}
 use Rattle.fields.specs.Headers.{headerRefusal}
 use Rattle.book.specs.Reading.{readPoints, readBook}

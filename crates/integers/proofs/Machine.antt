@@ -11,7 +11,7 @@ use lib.Dec.{T, ltb}
 use lib.IntN.{ℤ, pos, negsuc, negℤ, predℤ, natAbs, subℕ, _+ℤ_, _-ℤ_, -ℤ-one}
 use lib.Signed.{mag, ltZ, quotZ, remZ, mag-rem, nonNeg}
 use mir.Facts.{toZ-ofZ, toZ-pos}
-use mir.Syntax.{Width}
+use mir.Syntax.{Width, w64}
 use mir.Val.{Fits, SFits, hbits, toZ, ofZ}
 use mir.ValLaws.{sfits-le, half-full}
 use borrow.Author.Tests.{ltb-true, le-ltb}
@@ -25,6 +25,10 @@ back w z = toZ w (ofZ w z)
 -- a call's result, from what the call promises of it: `told w64 (c .call .ok) (c .call .ensures)`
 pub told : (w : Width) {y z : ℤ} → mag y < 2 ^ hbits w → y ≡ z → back w y ≡ z
 told w h e = toZ-ofZ {w = w} (record { sfits = h }) ∙ e
+
+-- a word of eight bytes reads back from its bits as it was
+pub word-back : (z : ℤ) → mag z < 2 ^ 63 → back w64 z ≡ z
+word-back z h = told w64 h refl
 
 -- a number that is not negative, cast to the same width without a sign
 pub cast-fits : {w : Width} {y : ℤ} {n : ℕ} → y ≡ pos n → n < 2 ^ hbits w → T (nonNeg y) × Fits w (natAbs y)

@@ -1,5 +1,5 @@
 use mathlib.Core.Path.{ap}
-use Rattle.book.proofs.Results.{word-back}
+use Rattle.integers.proofs.Machine.{word-back}
 use Rattle.lines.specs.Numerals.{signed}
 use Rattle.printing.specs.Printed.{line}
 use Rattle.lines.proofs.Places.{then, named}

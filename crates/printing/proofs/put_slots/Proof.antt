@@ -1,14 +1,12 @@
 -- The lines of the slots before i stand.
-use mathlib.Core.Path.{_≡_, refl, sym, ap, _∙_}
-use mathlib.Core.List.{_++_}
-use Prim.Native.Nat.{ℕ, _≤_, _+_, _*_, _-_}
-use native.Mathlib.Numerals.{add-one}
+use mathlib.Core.Path.{_≡_, refl, sym, ap}
+use Prim.Native.Nat.{_≤_, _+_, _*_, _-_}
 use native.Mathlib.Omega.{arith}
 use lib.IntN.{pos}
 use lib.ListN.{length, getD, take}
 use lib.Seq.{take-all}
 use borrow.Author.Needs.{needs}
-use Rattle.book.proofs.Results.{word-back}
+use Rattle.integers.proofs.Machine.{word-back}
 use Rattle.lines.specs.Numerals.{signed}
 use Rattle.lines.specs.Placing.{Placed}
 use Rattle.printing.specs.Printed.{line, slotLines}

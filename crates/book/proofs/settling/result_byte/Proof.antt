@@ -5,7 +5,8 @@ use lib.IntN.{ℤ, pos}
 use lib.ListN.{getD}
 use Rattle.numbers.specs.Words.{bytesOf}
 use Rattle.integers.specs.Integers.{twosComplement}
-use Rattle.book.proofs.Results.{word-back, words-at}
+use Rattle.integers.proofs.Machine.{word-back}
+use Rattle.book.proofs.Results.{words-at}
 -- The word, then its byte.
 use borrow.Author.Needs.{needs}
 use Rattle.book.proofs.settling.result_byte.Statement.{statement}

@@ -1,5 +1,5 @@
 -- Each word reads back as it was.
-use Rattle.book.proofs.Results.{word-back}
+use Rattle.integers.proofs.Machine.{word-back}
 use borrow.Author.Needs.{needs}
 use Rattle.book.proofs.settling.words_of.Statement.{statement}
 use Rattle.book.proofs.settling.words_of.Tie as tie
