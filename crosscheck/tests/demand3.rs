@@ -295,16 +295,15 @@ impl Program for Closes {
 #[test]
 fn closings_gone_wrong_are_found() {
     let early = Closes(|state| {
-        ledger::close(&State {
-            count: state.points.max(1),
-            ..*state
-        })
+        let mut early = *state;
+        early.terms.head.count = state.points.max(1);
+        ledger::close(&early)
     });
     assert_eq!(breach_of(&early).unwrap().what, "accepted by one side only");
     let toward_zero = Closes(|state| {
         let (number, mut figures) = ledger::close(state);
         figures.settled = figures.total / 3_000;
-        figures.shortfall = (i64::from(state.contract) - figures.settled).max(0);
+        figures.shortfall = (i64::from(state.terms.head.contract) - figures.settled).max(0);
         (number, figures)
     });
     assert!(breach_of(&toward_zero).is_some());
@@ -320,7 +319,7 @@ fn closings_gone_wrong_are_found() {
 
 /// Generators with six readings together as given, in a list of their number.
 fn generators_with_totals(totals: &[u32]) -> (List, Vec<Call>) {
-    let mut list = List::new(HeadFields::EXAMPLE_M);
+    let mut list = List::new(Head::EXAMPLE_M);
     for (number, total) in (1..).zip(totals) {
         let mut generator = GeneratorFields::flat(number, 0, 0);
         generator.readings[3] = *total;
@@ -450,7 +449,7 @@ fn the_checker_tells_the_closings_apart() {
         ..Seen::default()
     };
     assert_eq!(seen(&[0]), one(without_remainder));
-    let mut list = List::new(HeadFields::EXAMPLE_M);
+    let mut list = List::new(Head::EXAMPLE_M);
     list.push(PointFields::Consumer(consumer_of_example_h(1, 241)));
     list.push(generator(2, 0, 2)); // 5,988 and 12
     let calls = [
@@ -495,7 +494,7 @@ impl Program for Opens {
 
 #[test]
 fn the_checker_compares_openings() {
-    let head = HeadFields::EXAMPLE_M.value();
+    let head = Head::EXAMPLE_M.value();
     let said = |program: Opens, head: &[u8]| {
         demand3_of(&program, head, &[0; 30], &[]).map_err(|breach| breach.call)
     };

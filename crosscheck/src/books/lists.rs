@@ -85,7 +85,7 @@ fn contract(random: &mut Random) -> u32 {
 pub fn begun(random: &mut Random) -> List {
     let (year, month, day) = test_date(random);
     let any = random.between(u32::from(LOWEST_FIRST_SLOT), u32::from(HIGHEST_FIRST_SLOT)) as u8;
-    List::new(HeadFields {
+    List::new(Head {
         year,
         month,
         day,
