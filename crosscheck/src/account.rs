@@ -14,7 +14,7 @@ const PARTS_FACTOR: i128 = WH_OF_A_SETTLED_KW * PARTS_OF_A_WH;
 /// The product of the three (10,000 − loss).
 fn product_after_losses(terms: &Terms) -> i128 {
     let after_loss = |&loss: &u16| i128::from(WHOLE - loss);
-    terms.losses.iter().map(after_loss).product()
+    terms.head.losses.iter().map(after_loss).product()
 }
 
 /// Equal parts of a kW in which the exact figures are whole numbers.
@@ -28,9 +28,11 @@ pub fn exact_sum(terms: &Terms, taken: &Taken) -> i128 {
     let product = product_after_losses(terms);
     match taken {
         Taken::Consumer(consumer, days) => {
-            let loss = terms.loss_of_class(consumer.class());
+            let loss = terms.head.loss_of_class(consumer.class());
             let others = product / i128::from(WHOLE - loss);
-            let reduced: i128 = reductions(consumer, terms.first_slot, days).iter().sum();
+            let reduced: i128 = reductions(consumer, terms.head.first_slot, days)
+                .iter()
+                .sum();
             reduced * i128::from(WHOLE) * others
         }
         Taken::Generator(generator) => {
@@ -90,8 +92,8 @@ impl Account {
     /// below the count. Nothing changes.
     pub fn closing(&self) -> Option<i128> {
         let terms = self.terms.as_ref()?;
-        let reached = self.points >= terms.count;
-        let contract = i128::from(terms.contract) * parts_of_a_kw(terms);
+        let reached = self.points >= terms.head.count;
+        let contract = i128::from(terms.head.contract) * parts_of_a_kw(terms);
         reached.then(|| (contract - self.sum).max(0))
     }
 }
@@ -128,8 +130,8 @@ fn leaves_remainder(terms: &Terms, taken: &Taken) -> bool {
     let Taken::Consumer(consumer, days) = taken else {
         return false;
     };
-    let loss = terms.loss_of_class(consumer.class());
-    reductions(consumer, terms.first_slot, days)
+    let loss = terms.head.loss_of_class(consumer.class());
+    reductions(consumer, terms.head.first_slot, days)
         .iter()
         .map(|&reduction| loss_division(reduction, loss))
         .any(|(dividend, divisor)| dividend % divisor != 0)

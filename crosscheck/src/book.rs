@@ -80,7 +80,7 @@ pub fn settle_fields(book: &[u8]) -> Result<SettledBook<'_>, Refusal> {
     let calendar = unread.head_or_calendar(CALENDAR_TAG, CALENDAR_LENGTH)?;
     let mut state = where_accepted(open(head, calendar))?;
     let mut points = Vec::new();
-    while state.points < state.count {
+    while state.points < state.terms.head.count {
         let (tag, value) = unread.point()?;
         let mut results: SlotResults = [0; WINDOW_SLOTS];
         state = where_accepted(add(&state, tag, value, &mut results))?;

@@ -6,6 +6,7 @@ pub mod vectors;
 use crate::ledger::{add, close, open, Figures, State};
 use crate::limits::*;
 use crate::refusals::Refusal;
+use crate::terms::{Head, Terms};
 use crate::writing::{write_head, write_point};
 
 /// Kind byte of an opening.
@@ -167,12 +168,10 @@ fn with_parts(front: Vec<u8>, parts: &[&[u8]]) -> Vec<u8> {
 
 /// A state in its form.
 fn state_bytes(state: &State) -> Vec<u8> {
-    let mut bytes = state.year.to_be_bytes().to_vec();
-    bytes.extend([state.month, state.day, state.first_slot]);
-    bytes.extend(state.losses.iter().flat_map(|loss| loss.to_be_bytes()));
-    bytes.extend(state.contract.to_be_bytes());
-    bytes.extend(state.count.to_be_bytes());
-    bytes.extend(state.marks);
+    let Terms { head, marks } = &state.terms;
+    let mut bytes = head.bytes_before_count();
+    bytes.extend(head.count.to_be_bytes());
+    bytes.extend(marks);
     bytes.extend(state.points.to_be_bytes());
     bytes.extend(state.totals.iter().flat_map(|total| total.to_be_bytes()));
     bytes.extend(state.last);
@@ -188,17 +187,18 @@ fn hex_text(bytes: &[u8]) -> String {
 }
 
 fn state_text(state: &State) -> String {
-    let [low, high, extra_high] = state.losses;
+    let Terms { head, marks } = &state.terms;
+    let [low, high, extra_high] = head.losses;
     format!(
         " year {} month {} day {} slot {} losses {low} {high} {extra_high} contract {} count {} \
          marks {} points {} totals{} last {}",
-        state.year,
-        state.month,
-        state.day,
-        state.first_slot,
-        state.contract,
-        state.count,
-        hex_text(&state.marks),
+        head.year,
+        head.month,
+        head.day,
+        head.first_slot,
+        head.contract,
+        head.count,
+        hex_text(marks),
         state.points,
         list_text(&state.totals),
         hex_text(&state.last),
@@ -252,25 +252,30 @@ impl<'a> Unread<'a> {
         self.take(length).map(<[u8]>::to_vec)
     }
 
-    fn state(&mut self) -> Option<State> {
+    /// The head's numbers of a state.
+    fn head(&mut self) -> Option<Head> {
         let year = self.u16()?;
         let [month, day, first_slot] = self.array()?;
-        let losses = [self.u16()?, self.u16()?, self.u16()?];
-        let (contract, count) = (self.u32()?, self.u32()?);
+        Some(Head {
+            year,
+            month,
+            day,
+            first_slot,
+            losses: [self.u16()?, self.u16()?, self.u16()?],
+            contract: self.u32()?,
+            count: self.u32()?,
+        })
+    }
+
+    fn state(&mut self) -> Option<State> {
+        let head = self.head()?;
         let (marks, points) = (self.array()?, self.u32()?);
         let mut totals = [0; WINDOW_SLOTS];
         for total in &mut totals {
             *total = self.i64()?;
         }
         Some(State {
-            year,
-            month,
-            day,
-            first_slot,
-            losses,
-            contract,
-            count,
-            marks,
+            terms: Terms { head, marks },
             points,
             totals,
             last: self.array()?,

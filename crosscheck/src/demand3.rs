@@ -196,7 +196,7 @@ impl<'p, P: Program> Run<'p, P> {
     ) -> Result<(), &'static str> {
         let kw = parts_of_a_kw(terms);
         let printed = i128::from(figures.shortfall) * kw;
-        let reached = figures.settled >= i64::from(terms.contract);
+        let reached = figures.settled >= i64::from(terms.head.contract);
         let by_consumers = self.divisions.consumer_left_remainder();
         let by_total = self.divisions.total_leaves_remainder();
         let equal_due = reached || !(by_consumers || by_total);

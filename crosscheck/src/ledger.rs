@@ -5,28 +5,14 @@ use crate::limits::*;
 use crate::point::{number_is_allowed, Consumer, Generator, Point};
 use crate::refusals::*;
 use crate::slots::{consumer_results, divide_down, generator_results, window_sums, SlotResults};
-use crate::terms::Terms;
+use crate::terms::{Head, Terms};
 
 /// The settlement state. Its fields are plain numbers and may hold anything:
 /// adding and closing test all of them (rule 9).
 #[derive(Clone, Copy, Debug, PartialEq, Eq)]
 pub struct State {
-    /// Year of the test day.
-    pub year: u16,
-    /// Month of the test day.
-    pub month: u8,
-    /// Day of the month of the test day.
-    pub day: u8,
-    /// First slot s of the event window.
-    pub first_slot: u8,
-    /// Losses low, high, extra-high.
-    pub losses: [u16; CLASSES],
-    /// Contract in kW.
-    pub contract: u32,
-    /// Count of points that the head says.
-    pub count: u32,
-    /// Calendar marks, day 1 back first.
-    pub marks: [u8; DAYS_BACK],
+    /// What it holds of head and calendar.
+    pub terms: Terms,
     /// Points taken.
     pub points: u32,
     /// Slot totals in Wh.
@@ -41,54 +27,29 @@ pub const NO_LAST_NUMBER: [u8; NUMBER_LENGTH] = [b'0'; NUMBER_LENGTH];
 impl State {
     /// The state of a refused opening.
     pub const ZEROS: State = State {
-        year: 0,
-        month: 0,
-        day: 0,
-        first_slot: 0,
-        losses: [0; CLASSES],
-        contract: 0,
-        count: 0,
-        marks: [0; DAYS_BACK],
+        terms: Terms {
+            head: Head::ZEROS,
+            marks: [0; DAYS_BACK],
+        },
         points: 0,
         totals: [0; WINDOW_SLOTS],
         last: [0; NUMBER_LENGTH],
     };
 
     /// The state of an accepted opening: no points, totals 0.
-    fn opened(terms: &Terms) -> State {
+    fn opened(terms: Terms) -> State {
         State {
-            year: terms.year,
-            month: terms.month,
-            day: terms.day,
-            first_slot: terms.first_slot,
-            losses: terms.losses,
-            contract: terms.contract,
-            count: terms.count,
-            marks: terms.marks,
+            terms,
             points: 0,
             totals: [0; WINDOW_SLOTS],
             last: NO_LAST_NUMBER,
         }
     }
 
-    /// What the state holds of head and calendar.
-    pub fn terms(&self) -> Terms {
-        Terms {
-            year: self.year,
-            month: self.month,
-            day: self.day,
-            first_slot: self.first_slot,
-            losses: self.losses,
-            contract: self.contract,
-            count: self.count,
-            marks: self.marks,
-        }
-    }
-
     /// Rule 9, each clause of it.
     pub fn check(&self) -> Result<(), Refusal> {
-        let opening_refuses = self.terms().check().is_err();
-        let more_than_count = self.points > self.count;
+        let opening_refuses = self.terms.check().is_err();
+        let more_than_count = self.points > self.terms.head.count;
         let furthest = SLOT_TOTAL_OF_A_POINT * i128::from(self.points);
         let total_beyond = self
             .totals
@@ -138,7 +99,7 @@ pub fn take_point<'a>(
     value: &'a [u8],
     places: usize,
 ) -> Result<(Taken<'a>, [u8; NUMBER_LENGTH]), Refusal> {
-    refuse_where(held.points >= held.terms.count, COUNT_REACHED)?;
+    refuse_where(held.points >= held.terms.head.count, COUNT_REACHED)?;
     let point = Point::cut(tag, value)?; // 11, 12
     refuse_where(places != WINDOW_SLOTS, PLACES)?;
     point.check_number()?; // 14
@@ -157,7 +118,7 @@ pub fn take_point<'a>(
 
 /// The four days of a consumer; rule 18: fewer than four days.
 fn days_of_consumer(terms: &Terms, consumer: &Consumer) -> Result<ChosenDays, Refusal> {
-    let sums = window_sums(consumer, terms.first_slot);
+    let sums = window_sums(consumer, terms.head.first_slot);
     choose_days(&terms.eligible_days(), &sums).ok_or(TOO_FEW_DAYS)
 }
 
@@ -165,8 +126,8 @@ fn days_of_consumer(terms: &Terms, consumer: &Consumer) -> Result<ChosenDays, Re
 pub fn results_of(terms: &Terms, taken: &Taken) -> SlotResults {
     match taken {
         Taken::Consumer(consumer, days) => {
-            let loss = terms.loss_of_class(consumer.class());
-            consumer_results(consumer, terms.first_slot, days, loss)
+            let loss = terms.head.loss_of_class(consumer.class());
+            consumer_results(consumer, terms.head.first_slot, days, loss)
         }
         Taken::Generator(generator) => generator_results(generator),
     }
@@ -175,7 +136,7 @@ pub fn results_of(terms: &Terms, taken: &Taken) -> SlotResults {
 /// Opening: takes the head and calendar values and gives a state.
 pub fn open(head: &[u8], calendar: &[u8]) -> (Refusal, State) {
     match Terms::read(head, calendar) {
-        Ok(terms) => (ACCEPTED, State::opened(&terms)),
+        Ok(terms) => (ACCEPTED, State::opened(terms)),
         Err(refusal) => (refusal, State::ZEROS),
     }
 }
@@ -199,14 +160,13 @@ fn accepted_adding(
     places: usize,
 ) -> Result<(SlotResults, State), Refusal> {
     state.check()?;
-    let terms = state.terms();
     let held = Held {
-        terms: &terms,
+        terms: &state.terms,
         points: state.points,
         last: &state.last,
     };
     let (taken, number) = take_point(&held, tag, value, places)?;
-    let results = results_of(&terms, &taken);
+    let results = results_of(&state.terms, &taken);
     Ok((results, state.with_point(number, &results)))
 }
 
@@ -276,7 +236,8 @@ pub fn close(state: &State) -> (Refusal, Figures) {
 /// The figures of an accepted closing: rules 9 and 20.
 fn accepted_closing(state: &State) -> Result<Figures, Refusal> {
     state.check()?;
-    refuse_where(state.points < state.count, COUNT_NOT_REACHED)?;
+    let head = &state.terms.head;
+    refuse_where(state.points < head.count, COUNT_NOT_REACHED)?;
     let total = state.totals.iter().sum();
-    Ok(closing_figures(total, state.contract, state.points))
+    Ok(closing_figures(total, head.contract, state.points))
 }

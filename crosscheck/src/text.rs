@@ -13,9 +13,10 @@ pub fn settle_book_text(book: &[u8]) -> String {
 /// Date and s, points, slot totals, then the closing figures.
 fn settled_text(book: &SettledBook) -> String {
     let (state, figures) = (&book.state, &book.figures);
+    let head = &state.terms.head;
     let mut text = format!(
         "date {}-{:02}-{:02} slot {}\npoints {}\n",
-        state.year, state.month, state.day, state.first_slot, state.points
+        head.year, head.month, head.day, head.first_slot, state.points
     );
     for (slot, total) in (1..).zip(&state.totals) {
         text += &format!("slot {slot} {total}\n");

@@ -30,7 +30,7 @@ fn answer(book: &[u8]) -> u32 {
 
 /// Example M's list with a consumer and a second generator behind.
 fn three_points() -> List {
-    let mut list = List::new(HeadFields::EXAMPLE_M);
+    let mut list = List::new(Head::EXAMPLE_M);
     list.push(generator(1, 0, 550_000));
     list.push(level_consumer(2));
     list.push(generator(3, 1, 0));
@@ -225,7 +225,7 @@ fn able_to_settle(list: &List) -> bool {
     let numbers: Vec<_> = points.iter_mut().map(|point| *point.number()).collect();
     let rising = numbers.windows(2).all(|pair| pair[0] < pair[1]);
     let with_days = |point: &PointFields| naive_exact_results(list, point).is_some();
-    points.len() == usize::from(list.head.count) && rising && points.iter().all(with_days)
+    points.len() as u32 == list.head.count && rising && points.iter().all(with_days)
 }
 
 #[test]
@@ -277,7 +277,7 @@ fn the_values_handed_on_settle_to_the_same_figures() {
 
 #[test]
 fn a_list_of_10_000_points() {
-    let mut list = List::new(HeadFields::EXAMPLE_M);
+    let mut list = List::new(Head::EXAMPLE_M);
     list.head.contract = 10_000_000;
     for number in 0..10_000 {
         list.push(generator(number, 0, 1_000_000_000));

@@ -1,7 +1,7 @@
 //! The stored calls of the program call_vectors: what they cover, their form,
 //! and that the stored files are those made here.
 
-use settlement::books::fields::{raw_field, ConsumerFields, GeneratorFields, HeadFields};
+use settlement::books::fields::{raw_field, ConsumerFields, GeneratorFields, Head};
 use settlement::calls::vectors::stored_calls;
 use settlement::calls::{read_calls, Call, MOST_BYTES, MOST_PLACES, STATE_LENGTH};
 use settlement::choosing::standing_days;
@@ -74,14 +74,17 @@ fn one_line_for_each_call() {
 /// Each clause of refusal 9 that a state meets, by its name.
 fn clauses_of_9(state: &State) -> Vec<&'static str> {
     let mut clauses = Vec::new();
-    if let Err(refusal) = state.terms().check() {
+    if let Err(refusal) = state.terms.check() {
         clauses.push(["2", "3", "4", "5", "6", "7", "8"][refusal as usize - 2]);
     }
     let limit = 4_000_000_000 * i128::from(state.points);
     let totals = state.totals.map(i128::from);
     let digits = state.last.iter().all(u8::is_ascii_digit);
     for (meets, clause) in [
-        (state.points > state.count, "more points than the count"),
+        (
+            state.points > state.terms.head.count,
+            "more points than the count",
+        ),
         (totals.iter().any(|&total| total > limit), "total above"),
         (totals.iter().any(|&total| total < -limit), "total below"),
         (state.points > 0 && !digits, "last number not digits"),
@@ -159,8 +162,8 @@ impl Shown {
         if refusal != 0 && refusal != 18 {
             return;
         }
-        let sums = window_sums(&consumer, state.first_slot);
-        let eligible = state.terms().eligible_days();
+        let sums = window_sums(&consumer, state.terms.head.first_slot);
+        let eligible = state.terms.eligible_days();
         let standing = standing_days(&eligible, &sums);
         *self.standing.entry(standing.len()).or_default() += 1;
         let of_days = |days: &[u8]| -> Vec<u64> {
@@ -278,7 +281,7 @@ fn writing_in_every_room() {
 
 /// Sets right all that a refusal of a head's writing looks at.
 fn set_head_right(head: &mut Vec<u8>, calendar: &mut Vec<u8>, lent: &mut Vec<u8>, refusal: u32) {
-    let good = HeadFields::EXAMPLE_M.value();
+    let good = Head::EXAMPLE_M.value();
     let places = match refusal {
         2 | 3 => 0..4,
         4 => 4..5,

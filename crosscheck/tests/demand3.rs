@@ -8,7 +8,8 @@ use settlement::books::examples::consumer_of_example_h;
 use settlement::books::fields::*;
 use settlement::books::lists::KINDS;
 use settlement::books::random::Random;
-use settlement::books::sequences::{adding, sequence, Sequence};
+use settlement::books::sequences::{adding, seeded_sequence, Sequence};
+use settlement::books::shortfalls::*;
 use settlement::demand3::{demand3, demand3_of, Breach, Call, Program, Seen, Settlement};
 use settlement::ledger::{self, Figures, State};
 use std::collections::BTreeSet;
@@ -20,13 +21,13 @@ fn demand_3_holds_over_many_sequences() {
     let mut seen = Seen::default();
     let mut kinds = BTreeSet::new();
     for seed in 0..SEQUENCES {
-        let sequence = sequence(&mut Random::new(seed));
+        let sequence = seeded_sequence(seed);
         let held = demand3(&sequence.head, &sequence.calendar, &sequence.calls);
         seen = seen.and(held.unwrap_or_else(|breach| panic!("seed {seed}: {breach:?}")));
         kinds.insert(sequence.kind);
     }
     println!("{SEQUENCES} sequences of {} kinds: {seen:?}", kinds.len());
-    assert_eq!(kinds.len(), KINDS.len());
+    assert_eq!(kinds.len(), KINDS.len() + SHORTFALL_KINDS.len());
     let counts = [
         seen.refused_openings,
         seen.accepted_addings,
@@ -119,29 +120,12 @@ fn the_account_refuses_like_the_paper() {
     assert_eq!(never.closing(), None);
 }
 
-/// A consumer of loss 1 whose six divisions each leave nearly a whole Wh, for
-/// which a reduction in twenty-fourths is sought.
-fn consumer_with_large_remainders() -> ConsumerFields {
-    let divisor = 24 * 9_999;
-    let reduction = (0..divisor)
-        .max_by_key(|reduction| reduction * 10_000u64 % divisor)
-        .unwrap() as u32;
-    let mut consumer = ConsumerFields::flat(0, 1, 50_000);
-    // Baseline 24 × 50,000 less this; use takes whole watt-hours of it.
-    let less = 24 - reduction % 24;
-    *consumer.reading(1, 16) += less;
-    consumer
-        .window(0, 26)
-        .fill(50_000 - (reduction + less) / 24);
-    consumer
-}
-
 #[test]
 fn ten_thousand_points_come_near_the_allowance() {
     let mut list = list_of_count(10_000);
     list.head.losses = [1, 0, 0];
     list.head.contract = 10_000_000;
-    let mut consumer = consumer_with_large_remainders();
+    let mut consumer = consumer_with_large_remainders(&list);
     let (_, first, places) = add_point(&opened(&list), &PointFields::Consumer(consumer.clone()));
     assert_eq!(first.points, 1);
     let mut calls = Vec::new();
@@ -174,6 +158,35 @@ fn printed_less_exact(list: &List, calls: &[Call]) -> f64 {
     (printed - account.closing().unwrap()) as f64 / parts as f64
 }
 
+/// Printed less exact shortfall of a list of accepted points, less what demand
+/// 3 allows, in kW.
+fn beyond_the_allowance(list: &List) -> f64 {
+    let calls: Vec<Call> = list.points.iter().map(adding).collect();
+    printed_less_exact(list, &calls) - 1.0 - 0.002 * list.points.len() as f64
+}
+
+#[test]
+fn lists_at_the_allowance_come_near_it() {
+    for seed in 0..200 {
+        let beyond = beyond_the_allowance(&consumers_near_allowance(&mut Random::new(seed)));
+        assert!((-0.0005..0.0).contains(&beyond), "{seed}: {beyond}");
+        // One kW more is a Wh of 3,000 below, at or above it.
+        let beyond = beyond_the_allowance(&generators_at_allowance(&mut Random::new(seed))) + 1.0;
+        assert!((-0.0004..0.0004).contains(&beyond), "{seed}: {beyond}");
+    }
+}
+
+#[test]
+fn one_remainder_alone_makes_the_printed_one_greater() {
+    for seed in 0..200 {
+        let list = one_remainder(&mut Random::new(seed));
+        let mut calls: Vec<Call> = list.points.iter().map(adding).collect();
+        calls.push(Call::Closing);
+        let seen = demand3(&list.head.value(), &list.marks, &calls).unwrap();
+        assert_eq!(seen.greater_by_consumers_alone, 1, "{seed}");
+    }
+}
+
 /// A program that does something else after an accepted adding.
 struct Altered<F: Fn(&State, &State, &[i64]) -> State>(F);
 
@@ -204,7 +217,7 @@ fn breach_of(program: &impl Program) -> Option<Breach> {
             calendar,
             calls,
             ..
-        } = sequence(&mut Random::new(seed));
+        } = seeded_sequence(seed);
         demand3_of(program, &head, &calendar, &calls).err()
     })
 }
@@ -295,16 +308,15 @@ impl Program for Closes {
 #[test]
 fn closings_gone_wrong_are_found() {
     let early = Closes(|state| {
-        ledger::close(&State {
-            count: state.points.max(1),
-            ..*state
-        })
+        let mut early = *state;
+        early.terms.head.count = state.points.max(1);
+        ledger::close(&early)
     });
     assert_eq!(breach_of(&early).unwrap().what, "accepted by one side only");
     let toward_zero = Closes(|state| {
         let (number, mut figures) = ledger::close(state);
         figures.settled = figures.total / 3_000;
-        figures.shortfall = (i64::from(state.contract) - figures.settled).max(0);
+        figures.shortfall = (i64::from(state.terms.head.contract) - figures.settled).max(0);
         (number, figures)
     });
     assert!(breach_of(&toward_zero).is_some());
@@ -320,7 +332,7 @@ fn closings_gone_wrong_are_found() {
 
 /// Generators with six readings together as given, in a list of their number.
 fn generators_with_totals(totals: &[u32]) -> (List, Vec<Call>) {
-    let mut list = List::new(HeadFields::EXAMPLE_M);
+    let mut list = List::new(Head::EXAMPLE_M);
     for (number, total) in (1..).zip(totals) {
         let mut generator = GeneratorFields::flat(number, 0, 0);
         generator.readings[3] = *total;
@@ -450,7 +462,7 @@ fn the_checker_tells_the_closings_apart() {
         ..Seen::default()
     };
     assert_eq!(seen(&[0]), one(without_remainder));
-    let mut list = List::new(HeadFields::EXAMPLE_M);
+    let mut list = List::new(Head::EXAMPLE_M);
     list.push(PointFields::Consumer(consumer_of_example_h(1, 241)));
     list.push(generator(2, 0, 2)); // 5,988 and 12
     let calls = [
@@ -495,7 +507,7 @@ impl Program for Opens {
 
 #[test]
 fn the_checker_compares_openings() {
-    let head = HeadFields::EXAMPLE_M.value();
+    let head = Head::EXAMPLE_M.value();
     let said = |program: Opens, head: &[u8]| {
         demand3_of(&program, head, &[0; 30], &[]).map_err(|breach| breach.call)
     };

@@ -147,8 +147,8 @@ fn l_through_adding_and_closing() {
 
 #[test]
 fn count_and_first_slot_at_their_limits() {
-    let answer = |change: fn(&mut HeadFields)| {
-        let mut head = HeadFields::EXAMPLE_M;
+    let answer = |change: fn(&mut Head)| {
+        let mut head = Head::EXAMPLE_M;
         change(&mut head);
         open(&head.value(), &[0; 30]).0
     };
@@ -214,7 +214,7 @@ fn m_as_bytes_of_the_book() {
 
 #[test]
 fn text_of_figures_below_zero() {
-    let mut list = List::new(HeadFields::EXAMPLE_M);
+    let mut list = List::new(Head::EXAMPLE_M);
     (list.head.year, list.head.month, list.head.day) = (2025, 12, 30);
     list.push(generator(1, 1, 499));
     let text = settle_book_text(&list.book());

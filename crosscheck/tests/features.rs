@@ -81,34 +81,34 @@ fn look_at_books(look: impl Fn(&mut Seen, &[u8])) -> Seen {
 
 fn look_at_head(seen: &mut Seen, book: &[u8]) {
     let (head, calendar, _) = fields(book);
-    let terms = Terms::cut(head, calendar).unwrap();
-    let date = format!("{}-{}-{}", terms.year, terms.month, terms.day);
+    let Terms { head, marks } = Terms::cut(head, calendar).unwrap();
+    let date = format!("{}-{}-{}", head.year, head.month, head.day);
     let dates = ["2019-12-31", "2020-1-1", "2099-12-31", "2100-1-1"];
     let ends = ["2024-2-29", "2023-2-29", "2024-2-30", "2025-4-31"];
     seen.note_value("date", date.as_str(), &dates);
     seen.note_value("date", date.as_str(), &ends);
-    seen.note_value("month", terms.month, &[0, 1, 12, 13]);
-    seen.note_value("day", terms.day, &[0, 1, 28, 29, 30, 31, 32]);
-    seen.note_value("s", terms.first_slot, &[17, 18, 34, 35]);
-    for (class, loss) in terms.losses.into_iter().enumerate() {
+    seen.note_value("month", head.month, &[0, 1, 12, 13]);
+    seen.note_value("day", head.day, &[0, 1, 28, 29, 30, 31, 32]);
+    seen.note_value("s", head.first_slot, &[17, 18, 34, 35]);
+    for (class, loss) in head.losses.into_iter().enumerate() {
         seen.note_value(&format!("loss {class}"), loss, &[0, 5_000, 5_001]);
     }
     let contracts = [0, 1, 999, 1_000, 10_000_000, 10_000_001];
-    seen.note_value("contract", terms.contract, &contracts);
-    seen.note_value("count", terms.count, &[0, 1, 256, 257, 10_000, 10_001]);
-    for (day, mark) in (1..).zip(terms.marks) {
+    seen.note_value("contract", head.contract, &contracts);
+    seen.note_value("count", head.count, &[0, 1, 256, 257, 10_000, 10_001]);
+    for (day, mark) in (1..).zip(marks) {
         seen.note_value(&format!("mark {day} back"), mark, &[0, 1, 2, 3, 4]);
     }
-    let day = terms.test_day();
-    let losses = terms.losses.iter().any(|&loss| loss > 5_000);
+    let day = head.test_day();
+    let losses = head.losses.iter().any(|&loss| loss > 5_000);
     seen.note_faults(&[
         (2, day.is_none()),
         (3, day.is_some_and(is_weekend)),
-        (4, !(18..=34).contains(&terms.first_slot)),
+        (4, !(18..=34).contains(&head.first_slot)),
         (5, losses),
-        (6, !contract_is_allowed(terms.contract)),
-        (7, !(1..=10_000).contains(&terms.count)),
-        (8, terms.marks.iter().any(|&mark| mark > 3)),
+        (6, !contract_is_allowed(head.contract)),
+        (7, !(1..=10_000).contains(&head.count)),
+        (8, marks.iter().any(|&mark| mark > 3)),
     ]);
 }
 
@@ -159,8 +159,8 @@ fn look_at_point(seen: &mut Seen, state: &State, tag: u8, value: &[u8]) -> State
     let mut few_days = false;
     match point {
         Point::Consumer(consumer) => {
-            let eligible = state.terms().eligible_days();
-            let sums = window_sums(&consumer, state.first_slot);
+            let eligible = state.terms.eligible_days();
+            let sums = window_sums(&consumer, state.terms.head.first_slot);
             few_days = standing_days(&eligible, &sums).len() < 4;
             seen.note_value("class", consumer.class(), &[0, 1, 2, 3, 4]);
             if refusal == 0 || refusal == 18 {

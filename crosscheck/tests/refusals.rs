@@ -6,6 +6,7 @@ mod common;
 use common::*;
 use settlement::books::fields::*;
 use settlement::ledger::{add, close, open, Figures, State};
+use settlement::terms::Terms;
 use settlement::writing::{write_head, write_point};
 
 /// A refusal with what brings it about.
@@ -37,7 +38,7 @@ struct Opening {
 
 fn opening() -> Opening {
     Opening {
-        head: HeadFields::EXAMPLE_M.value(),
+        head: Head::EXAMPLE_M.value(),
         calendar: vec![0; 30],
         lent: 60,
     }
@@ -58,14 +59,18 @@ const OPENING_FAULTS: [Fault<Opening>; 9] = [
 
 /// "A refused opening gives a state of zeros".
 const ZEROS: State = State {
-    year: 0,
-    month: 0,
-    day: 0,
-    first_slot: 0,
-    losses: [0; 3],
-    contract: 0,
-    count: 0,
-    marks: [0; 30],
+    terms: Terms {
+        head: Head {
+            year: 0,
+            month: 0,
+            day: 0,
+            first_slot: 0,
+            losses: [0; 3],
+            contract: 0,
+            count: 0,
+        },
+        marks: [0; 30],
+    },
     points: 0,
     totals: [0; 6],
     last: [0; 22],
@@ -85,7 +90,7 @@ fn opening_tells_the_first_refusal() {
 
 #[test]
 fn opening_gives_no_points_and_no_last_number() {
-    let mut list = List::new(HeadFields::EXAMPLE_M);
+    let mut list = List::new(Head::EXAMPLE_M);
     list.head.losses = [1, 2, 5_000];
     list.head.contract = 0x0012_3456;
     list.head.count = 0x0203;
@@ -94,14 +99,18 @@ fn opening_gives_no_points_and_no_last_number() {
     }
     let state = opened(&list);
     let due = State {
-        year: 2024,
-        month: 8,
-        day: 7,
-        first_slot: 26,
-        losses: [1, 2, 5_000],
-        contract: 0x0012_3456,
-        count: 0x0203,
-        marks: list.marks,
+        terms: Terms {
+            head: Head {
+                year: 2024,
+                month: 8,
+                day: 7,
+                first_slot: 26,
+                losses: [1, 2, 5_000],
+                contract: 0x0012_3456,
+                count: 0x0203,
+            },
+            marks: list.marks,
+        },
         points: 0,
         totals: [0; 6],
         last: [b'0'; 22],
@@ -123,8 +132,8 @@ fn opening_refuses_other_lengths() {
 }
 
 /// The answer of opening to a changed head of example M.
-fn answer_to_head(change: impl Fn(&mut HeadFields)) -> u32 {
-    let mut head = HeadFields::EXAMPLE_M;
+fn answer_to_head(change: impl Fn(&mut Head)) -> u32 {
+    let mut head = Head::EXAMPLE_M;
     change(&mut head);
     open(&head.value(), &[0; 30]).0
 }
@@ -239,7 +248,7 @@ fn answer_of_adding(adding: &Adding) -> u32 {
 /// Faults in the order of document 01, for consumers and generators alike but
 /// for 18, which only a consumer has; 40 is told by writing alone.
 const ADDING_FAULTS: [Fault<Adding>; 11] = [
-    (9, |adding| adding.state.first_slot = 35),
+    (9, |adding| adding.state.terms.head.first_slot = 35),
     (10, |adding| adding.state.points = 3),
     (11, |adding| adding.tag = 5),
     (12, |adding| adding.value.truncate(49)),
@@ -250,7 +259,7 @@ const ADDING_FAULTS: [Fault<Adding>; 11] = [
     }),
     (16, |adding| adding.value[22] = 0xFF), // class, or baseline's high byte
     (17, |adding| adding.value[46..48].fill(0xFF)), // a reading's high byte
-    (18, |adding| adding.state.marks = [1; 30]),
+    (18, |adding| adding.state.terms.marks = [1; 30]),
     (40, |adding| adding.lent = 52),
 ];
 
@@ -275,7 +284,7 @@ fn adding_a_generator_tells_the_first_refusal() {
 #[test]
 fn adding_a_generator_needs_no_days() {
     let mut adding = adding_of(generator(7, 0, 100));
-    adding.state.marks = [1; 30];
+    adding.state.terms.marks = [1; 30];
     assert_eq!(answer_of_adding(&adding), 0);
 }
 
@@ -416,10 +425,10 @@ fn adding_with_three_and_four_days() {
     for (days, due) in [(0, 18), (3, 18), (4, 0), (5, 0)] {
         let mut adding = adding_of(level_consumer(7));
         let mut eligible = [1, 2, 5, 6, 7].iter().take(days);
-        adding.state.marks = [2; 30];
+        adding.state.terms.marks = [2; 30];
         eligible
             .by_ref()
-            .for_each(|&back: &usize| adding.state.marks[back - 1] = 0);
+            .for_each(|&back: &usize| adding.state.terms.marks[back - 1] = 0);
         assert_eq!(answer_of_adding(&adding), due);
     }
 }
@@ -431,16 +440,10 @@ fn closing_tells_9_then_20() {
     assert_ne!(close(&full).1, Figures::default());
     let open_still = opened(&list_of_count(1));
     assert_eq!(close(&open_still), (20, Figures::default()));
-    let broken = State {
-        first_slot: 17,
-        ..open_still
-    };
-    assert_eq!(close(&broken), (9, Figures::default()));
-    let broken = State {
-        first_slot: 17,
-        ..full
-    };
-    assert_eq!(close(&broken), (9, Figures::default()));
+    for mut broken in [open_still, full] {
+        broken.terms.head.first_slot = 17;
+        assert_eq!(close(&broken), (9, Figures::default()));
+    }
     assert_eq!(close(&ZEROS), (9, Figures::default()));
     assert_eq!(Figures::default().words(), [0; 8]);
 }

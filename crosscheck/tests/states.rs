@@ -3,10 +3,10 @@
 mod common;
 
 use common::*;
-use settlement::books::fields::*;
 use settlement::books::random::Random;
 use settlement::books::states::{any_state, changed_state, given_state};
 use settlement::ledger::{add, close, open, Figures, State};
+use settlement::terms::Terms;
 
 /// A state with two of two points taken, totals at 1,000.
 fn full_state() -> State {
@@ -34,19 +34,11 @@ fn told_9(state: &State) -> bool {
 /// Rule 9 the long way: the state's contents as a head and calendar given to
 /// opening, then each further clause.
 fn due_9(state: &State) -> bool {
-    let Ok(count) = u16::try_from(state.count) else {
+    let Terms { head, marks } = &state.terms;
+    if head.count > u32::from(u16::MAX) {
         return true;
-    };
-    let head = HeadFields {
-        year: state.year,
-        month: state.month,
-        day: state.day,
-        first_slot: state.first_slot,
-        losses: state.losses,
-        contract: state.contract,
-        count,
-    };
-    if open(&head.value(), &state.marks).0 != 0 || state.points > state.count {
+    }
+    if open(&head.value(), marks).0 != 0 || state.points > head.count {
         return true;
     }
     let limit = 4_000_000_000 * i64::from(state.points);
@@ -98,20 +90,20 @@ fn never_nine_for_given_states() {
 #[test]
 fn nine_for_what_opening_refuses() {
     let changes: [fn(&mut State); 14] = [
-        |state| state.year = 2019,
-        |state| state.year = 2100,
-        |state| state.month = 0,
-        |state| state.month = 13,
-        |state| state.day = 0,
-        |state| state.day = 32,
-        |state| state.day = 10, // a Saturday
-        |state| state.first_slot = 17,
-        |state| state.first_slot = 35,
-        |state| state.losses[0] = 5_001,
-        |state| state.losses[2] = 5_001,
-        |state| state.contract = 999,
-        |state| state.count = 10_001,
-        |state| state.marks[29] = 4,
+        |state| state.terms.head.year = 2019,
+        |state| state.terms.head.year = 2100,
+        |state| state.terms.head.month = 0,
+        |state| state.terms.head.month = 13,
+        |state| state.terms.head.day = 0,
+        |state| state.terms.head.day = 32,
+        |state| state.terms.head.day = 10, // a Saturday
+        |state| state.terms.head.first_slot = 17,
+        |state| state.terms.head.first_slot = 35,
+        |state| state.terms.head.losses[0] = 5_001,
+        |state| state.terms.head.losses[2] = 5_001,
+        |state| state.terms.head.contract = 999,
+        |state| state.terms.head.count = 10_001,
+        |state| state.terms.marks[29] = 4,
     ];
     assert!(!told_9(&full_state()));
     for (place, change) in changes.iter().enumerate() {
@@ -125,10 +117,8 @@ fn nine_for_what_opening_refuses() {
 #[test]
 fn nine_for_counts_beyond_two_bytes() {
     for count in [65_536 + 2, 1 << 31, u32::MAX] {
-        let state = State {
-            count,
-            ..full_state()
-        };
+        let mut state = full_state();
+        state.terms.head.count = count;
         assert!(told_9(&state));
     }
 }
@@ -196,13 +186,13 @@ fn nine_for_a_last_number_only_with_points() {
 
 #[test]
 fn the_furthest_state_closes() {
-    let state = State {
-        count: 10_000,
+    let mut state = State {
         points: 10_000,
-        contract: 10_000_000,
         totals: [-40_000_000_000_000; 6],
         ..full_state()
     };
+    state.terms.head.count = 10_000;
+    state.terms.head.contract = 10_000_000;
     let (number, figures) = close(&state);
     assert_eq!(number, 0);
     assert_eq!(figures.total, -240_000_000_000_000);

@@ -4,7 +4,7 @@
 
 use settlement::account::{parts_of_a_kw, Account};
 use settlement::books::examples::consumer_of_example_h;
-use settlement::books::fields::{GeneratorFields, HeadFields};
+use settlement::books::fields::{GeneratorFields, Head};
 use settlement::ledger::{add, close, open};
 
 /// A closing too early, a generator with too high a baseline, the generator, a
@@ -12,9 +12,9 @@ use settlement::ledger::{add, close, open};
 /// total, settled, shortfall and exact shortfall in 480ths of a kW are given
 /// back.
 fn worked(metered: u32, usage: u32) -> (i64, i64, i64, i128) {
-    let head = HeadFields {
+    let head = Head {
         count: 2,
-        ..HeadFields::EXAMPLE_M
+        ..Head::EXAMPLE_M
     }
     .value();
     let calendar = [0; 30];

@@ -1,6 +1,6 @@
 //! The books that are timed, and what is seen of them before.
 
-use settlement::books::fields::{GeneratorFields, HeadFields, List, PointFields};
+use settlement::books::fields::{GeneratorFields, Head, List, PointFields};
 use settlement::books::lists::{consumer, consumer_with_sums, eligible};
 use settlement::books::random::Random;
 use settlement::choosing::dropped_in_round;
@@ -43,7 +43,7 @@ pub const GENERATORS: Kind = Kind {
 };
 
 fn begun() -> (Random, List) {
-    (Random::new(2024), List::new(HeadFields::EXAMPLE_M))
+    (Random::new(2024), List::new(Head::EXAMPLE_M))
 }
 
 fn ordinary(points: u32) -> List {

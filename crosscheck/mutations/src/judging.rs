@@ -1,11 +1,18 @@
 //! Holds a wrong settlement against the separate settlement, case by case.
 //!
 //! Every case is made and answered by the unchanged settlement; the wrong one
-//! only answers it.
+//! only answers it. Cases are books, single calls and sequences of calls.
 
 #![forbid(unsafe_code)]
 #![warn(missing_docs)]
 
+mod sequences;
+
+pub use sequences::{word_of, Alteration};
+pub use settlement::books::sequences::Sequence;
+pub use settlement::demand3::Call;
+
+use sequences::told_by_sequence;
 use settlement::books::lending::{lent_bytes, result_length, to_write};
 use settlement::books::{seeded_book, SeededBook};
 use settlement::calls::vectors::stored_calls;
@@ -26,6 +33,10 @@ pub trait Answers {
     fn text(&self, book: &[u8]) -> String;
     /// The answers to single calls, given in the form of docs/VECTORS.md.
     fn calls(&self, calls: &[u8]) -> String;
+    /// Whether demand 3 holds of a sequence and its own program, altered.
+    fn demand3(&self, given: &Sequence, altered: &Alteration) -> String;
+    /// What the exact account answers to a sequence.
+    fn account(&self, given: &Sequence) -> String;
 }
 
 /// The answers of a crate with the modules of the separate settlement.
@@ -54,6 +65,79 @@ macro_rules! answers_of {
             fn calls(&self, calls: &[u8]) -> String {
                 let (calls, _) = $settlement::calls::read_calls(calls);
                 calls.iter().map(|call| call.answer().1).collect()
+            }
+
+            fn demand3(&self, given: &$crate::Sequence, altered: &$crate::Alteration) -> String {
+                let calls: Vec<_> = given.calls.iter().map(call_of).collect();
+                let program = Altered(altered);
+                let held = $settlement::demand3::demand3_of;
+                match held(&program, &given.head, &given.calendar, &calls) {
+                    Ok(_) => "holds".to_string(),
+                    Err(breach) => format!("fails at call {}: {}", breach.call, breach.what),
+                }
+            }
+
+            fn account(&self, given: &$crate::Sequence) -> String {
+                let opened = $settlement::account::Account::opening;
+                let mut account = opened(&given.head, &given.calendar);
+                let mut answers = $crate::word_of("opening", account.terms());
+                for call in &given.calls {
+                    answers += &match call {
+                        $crate::Call::Adding { tag, value, places } => {
+                            let taken = account.adding(*tag, value, *places);
+                            let word = $crate::word_of(" adding", taken);
+                            format!("{word} points {}", account.points())
+                        }
+                        $crate::Call::Closing => {
+                            let exact = account.closing();
+                            let word = $crate::word_of(" closing", exact);
+                            format!("{word} shortfall {}", exact.unwrap_or(0))
+                        }
+                    };
+                }
+                answers
+            }
+        }
+
+        /// A call of a sequence, as this crate has it.
+        fn call_of(call: &$crate::Call) -> $settlement::demand3::Call {
+            match call {
+                $crate::Call::Adding { tag, value, places } => $settlement::demand3::Call::Adding {
+                    tag: *tag,
+                    value: value.clone(),
+                    places: *places,
+                },
+                $crate::Call::Closing => $settlement::demand3::Call::Closing,
+            }
+        }
+
+        /// The program of this crate, altered.
+        struct Altered<'a>(&'a $crate::Alteration);
+
+        impl $settlement::demand3::Program for Altered<'_> {
+            fn open(&self, head: &[u8], calendar: &[u8]) -> (u32, $settlement::ledger::State) {
+                let (number, state) = $settlement::ledger::open(head, calendar);
+                (self.0.number_told(number), state)
+            }
+
+            fn add(
+                &self,
+                state: &$settlement::ledger::State,
+                tag: u8,
+                value: &[u8],
+                places: &mut [i64],
+            ) -> (u32, $settlement::ledger::State) {
+                let (number, state) = $settlement::ledger::add(state, tag, value, places);
+                (self.0.number_told(number), state)
+            }
+
+            fn close(
+                &self,
+                state: &$settlement::ledger::State,
+            ) -> (u32, $settlement::ledger::Figures) {
+                let (number, mut figures) = $settlement::ledger::close(state);
+                figures.shortfall += self.0.shortfall_more;
+                (self.0.number_told(number), figures)
             }
         }
     };
@@ -207,8 +291,8 @@ fn told_by_call(wrong: &dyn Answers) -> Option<String> {
 }
 
 /// What a wrong settlement's program does: prints the first case that tells it
-/// apart, books before calls, or nothing. The program's argument is the number
-/// of books.
+/// apart, books before calls before sequences, or nothing. The program's
+/// argument is the number of books.
 pub fn judge(wrong: &dyn Answers) -> ExitCode {
     let books = std::env::args().nth(1).and_then(|books| books.parse().ok());
     let Some(books) = books else {
@@ -216,7 +300,9 @@ pub fn judge(wrong: &dyn Answers) -> ExitCode {
         return ExitCode::from(2);
     };
     panic::set_hook(Box::new(|_| {})); // a panic is an answer here
-    let told = told_by_book(wrong, books).or_else(|| told_by_call(wrong));
+    let told = told_by_book(wrong, books)
+        .or_else(|| told_by_call(wrong))
+        .or_else(|| told_by_sequence(wrong));
     match io::stdout().write_all(told.unwrap_or_default().as_bytes()) {
         Ok(()) => ExitCode::SUCCESS,
         Err(error) => {

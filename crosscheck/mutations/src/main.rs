@@ -4,10 +4,11 @@
 //!     mutations [BOOKS [NAME ..]]
 //!
 //! Tries the seeded books from 0 on, BOOKS of them (default 20,000), then the
-//! stored calls; with names, only those wrong settlements. Prints one row for
-//! each: its name, the rule it breaks, the case, both answers. The last line
-//! has the counts. The exit status is 1 where one is told apart by no case, or
-//! cannot be tried, or where the settlement without an edit is told apart.
+//! stored calls, then seeded sequences of calls; with names, only those wrong
+//! settlements. Prints one row for each: its name, the rule it breaks, the
+//! case, both answers. The last line has the counts. The exit status is 1 where
+//! one is told apart by no case, or cannot be tried, or where the settlement
+//! without an edit is told apart.
 
 mod edits;
 mod mutants;
@@ -25,11 +26,21 @@ use std::thread;
 struct Counts {
     by_book: u32,
     by_call: u32,
+    by_sequence: u32,
     by_none: u32,
     not_tried: u32,
 }
 
 impl Counts {
+    /// The count of the cases that begin as this one does.
+    fn of_kind(&mut self, case: &str) -> &mut u32 {
+        match case.split(' ').next() {
+            Some("book") => &mut self.by_book,
+            Some("call") => &mut self.by_call,
+            _ => &mut self.by_sequence,
+        }
+    }
+
     /// Prints the row of a wrong settlement and counts it.
     fn row(&mut self, edit: &Edit, verdict: Result<String, String>) {
         let (name, rule) = (&edit.name, &edit.rule);
@@ -39,9 +50,7 @@ impl Counts {
                 println!("| {name} | {rule} | NONE | |");
             }
             Ok(case) => {
-                let by_book = case.starts_with("book");
-                self.by_book += u32::from(by_book);
-                self.by_call += u32::from(!by_book);
+                *self.of_kind(&case) += 1;
                 println!("| {name} | {rule} | {case} |");
             }
             Err(error) => {
@@ -113,9 +122,9 @@ fn run(arguments: &[String]) -> Result<bool, String> {
     println!("| Wrong settlement | Rule | Case | Answers |\n|---|---|---|---|");
     let counts = judge_all(&shared, &edits, books);
     println!(
-        "{} wrong settlements, of at most {books} books and the stored calls: {} told apart by a book, {} by a call, \
-         {} by none, {} not tried; the unchanged one by none",
-        edits.len(), counts.by_book, counts.by_call, counts.by_none, counts.not_tried
+        "{} wrong settlements, of at most {books} books, the stored calls and the seeded sequences: \
+         {} told apart by a book, {} by a call, {} by a sequence, {} by none, {} not tried; the unchanged one by none",
+        edits.len(), counts.by_book, counts.by_call, counts.by_sequence, counts.by_none, counts.not_tried
     );
     Ok(counts.by_none + counts.not_tried == 0)
 }

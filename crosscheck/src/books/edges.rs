@@ -1,6 +1,6 @@
 //! Seeded changes to a list: one part of it goes to an edge or beyond it.
 
-use super::fields::{point_number, HeadFields, List, PointFields};
+use super::fields::{point_number, Head, List, PointFields};
 use super::random::Random;
 use crate::limits::*;
 
@@ -57,11 +57,11 @@ pub fn head(random: &mut Random, list: &mut List) {
             let contracts = [0, 1, 999, 1_000, 10_000_000, 10_000_001, u32::MAX];
             list.head.contract = random.one_of(&contracts);
         }
-        _ => list.head.count = random.one_of(&[0, 1, 10_000, 10_001, u16::MAX]),
+        _ => list.head.count = random.one_of(&[0, 1, 10_000, 10_001, 65_535]),
     }
 }
 
-fn date(random: &mut Random, head: &mut HeadFields) {
+fn date(random: &mut Random, head: &mut Head) {
     let allowed = random.one_of(&ALLOWED_DATES);
     let other = random.one_of(&OTHER_DATES);
     (head.year, head.month, head.day) = random.one_of(&[allowed, other, other, other]);
@@ -131,6 +131,6 @@ pub fn number_order(random: &mut Random, list: &mut List) {
 
 /// The count is one above or below the points there are.
 pub fn count(random: &mut Random, list: &mut List) {
-    let points = list.points.len() as u16;
+    let points = list.points.len() as u32;
     list.head.count = random.one_of(&[points - 1, points + 1]);
 }

@@ -1,11 +1,11 @@
 //! Example books by name.
 
-use super::fields::{ConsumerFields, GeneratorFields, HeadFields, List, PointFields};
+use super::fields::{ConsumerFields, GeneratorFields, Head, List, PointFields};
 use crate::limits::*;
 
 /// Example M of document 01: one generator.
 pub fn example_m() -> Vec<u8> {
-    let mut list = List::new(HeadFields::EXAMPLE_M);
+    let mut list = List::new(Head::EXAMPLE_M);
     list.push(PointFields::Generator(GeneratorFields::flat(1, 0, 550_000)));
     list.book()
 }
@@ -14,16 +14,14 @@ pub fn example_m() -> Vec<u8> {
 /// 1,200, with the use given.
 pub fn consumer_of_example_h(number: u128, usage: u32) -> ConsumerFields {
     let mut consumer = ConsumerFields::flat(number, 2, 1_200);
-    consumer
-        .window(0, HeadFields::EXAMPLE_M.first_slot)
-        .fill(usage);
+    consumer.window(0, Head::EXAMPLE_M.first_slot).fill(usage);
     consumer
 }
 
 /// Consumers of all classes and a generator, with a shortfall.
 pub fn consumers() -> Vec<u8> {
-    let first_slot = HeadFields::EXAMPLE_M.first_slot;
-    let mut list = List::new(HeadFields::EXAMPLE_M);
+    let first_slot = Head::EXAMPLE_M.first_slot;
+    let mut list = List::new(Head::EXAMPLE_M);
     list.marks[0] = 1;
     for (number, class) in (1..).zip([1u8, 2, 3]) {
         let mut consumer = ConsumerFields::flat(number, class, 400_000);

@@ -70,7 +70,7 @@ fn contract(random: &mut Random, list: &mut List) {
 }
 
 fn count(random: &mut Random, list: &mut List) {
-    list.head.count = random.one_of(&[0, 10_001, u16::MAX]);
+    list.head.count = random.one_of(&[0, 10_001, 65_535]);
 }
 
 fn mark(random: &mut Random, list: &mut List) {

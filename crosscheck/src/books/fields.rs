@@ -1,30 +1,12 @@
 //! Fields of books put together from their numbers, whether allowed or not.
 
 use crate::limits::*;
+pub use crate::terms::Head;
 
-/// A head's numbers.
-#[derive(Clone, Copy, Debug, PartialEq, Eq)]
-pub struct HeadFields {
-    /// Year of the test day.
-    pub year: u16,
-    /// Month of the test day.
-    pub month: u8,
-    /// Day of the month of the test day.
-    pub day: u8,
-    /// First slot s of the event window.
-    pub first_slot: u8,
-    /// Losses low, high, extra-high.
-    pub losses: [u16; CLASSES],
-    /// Contract in kW.
-    pub contract: u32,
-    /// Count of points.
-    pub count: u16,
-}
-
-impl HeadFields {
+impl Head {
     /// The head of example M: 2024-08-07, s 26, losses 700, 400, 200, contract
     /// 1,000, count 1.
-    pub const EXAMPLE_M: HeadFields = HeadFields {
+    pub const EXAMPLE_M: Head = Head {
         year: 2024,
         month: 8,
         day: 7,
@@ -34,13 +16,11 @@ impl HeadFields {
         count: 1,
     };
 
-    /// The head value.
+    /// The head value; its count has two bytes.
     pub fn value(&self) -> Vec<u8> {
-        let mut value = self.year.to_be_bytes().to_vec();
-        value.extend([self.month, self.day, self.first_slot]);
-        value.extend(self.losses.iter().flat_map(|loss| loss.to_be_bytes()));
-        value.extend(self.contract.to_be_bytes());
-        value.extend(self.count.to_be_bytes());
+        let count = u16::try_from(self.count).expect("a count of two bytes");
+        let mut value = self.bytes_before_count();
+        value.extend(count.to_be_bytes());
         value
     }
 }
@@ -205,7 +185,7 @@ pub fn raw_field(tag: u8, value: &[u8]) -> Vec<u8> {
 #[derive(Clone, Debug, PartialEq, Eq)]
 pub struct List {
     /// The head.
-    pub head: HeadFields,
+    pub head: Head,
     /// The calendar marks.
     pub marks: [u8; DAYS_BACK],
     /// The points.
@@ -214,7 +194,7 @@ pub struct List {
 
 impl List {
     /// A list without marks and points.
-    pub fn new(head: HeadFields) -> List {
+    pub fn new(head: Head) -> List {
         List {
             head,
             marks: [NO_MARK; DAYS_BACK],
@@ -225,7 +205,7 @@ impl List {
     /// Puts a point at the end and raises the count to the points there are.
     pub fn push(&mut self, point: PointFields) {
         self.points.push(point);
-        self.head.count = self.points.len() as u16;
+        self.head.count = self.points.len() as u32;
     }
 
     /// The list as a book, with no test.

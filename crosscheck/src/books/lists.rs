@@ -85,7 +85,7 @@ fn contract(random: &mut Random) -> u32 {
 pub fn begun(random: &mut Random) -> List {
     let (year, month, day) = test_date(random);
     let any = random.between(u32::from(LOWEST_FIRST_SLOT), u32::from(HIGHEST_FIRST_SLOT)) as u8;
-    List::new(HeadFields {
+    List::new(Head {
         year,
         month,
         day,
@@ -436,7 +436,7 @@ pub fn total_near_multiple(random: &mut Random) -> List {
 
 /// A consumer whose six divisions are whole: level history, and use below or
 /// above it by a multiple of (10,000 − loss).
-fn whole_consumer(random: &mut Random, list: &List) -> ConsumerFields {
+pub(super) fn whole_consumer(random: &mut Random, list: &List) -> ConsumerFields {
     let reading = 5_000_000;
     let number = next_number(random, list);
     let mut consumer = ConsumerFields::flat(number, class(random), reading);
@@ -453,6 +453,15 @@ fn whole_consumer(random: &mut Random, list: &List) -> ConsumerFields {
     consumer
 }
 
+/// A generator that makes the total a multiple of 3,000.
+pub(super) fn filling_generator(random: &mut Random, list: &List) -> GeneratorFields {
+    let total = total_of(list).unwrap_or(0);
+    let number = next_number(random, list);
+    let mut generator = GeneratorFields::flat(number, 0, 3_000);
+    generator.readings[0] = 3_000 - total.rem_euclid(3_000) as u32;
+    generator
+}
+
 /// No division leaves a remainder, or only that of the total does.
 pub fn without_remainder(random: &mut Random) -> List {
     let mut list = begun(random);
@@ -460,17 +469,14 @@ pub fn without_remainder(random: &mut Random) -> List {
         let consumer = whole_consumer(random, &list);
         list.push(PointFields::Consumer(consumer));
     }
-    let total = total_of(&list).unwrap_or(0);
-    let number = next_number(random, &list);
-    let mut generator = GeneratorFields::flat(number, 0, 3_000);
-    generator.readings[0] = 3_000 - total.rem_euclid(3_000) as u32;
+    let mut generator = filling_generator(random, &list);
     generator.readings[1] += random.one_of(&[0, 0, 1, 2_999]);
     list.push(PointFields::Generator(generator));
     list
 }
 
 /// The total of a list as it stands, where its book gives 0.
-fn total_of(list: &List) -> Option<i64> {
+pub(super) fn total_of(list: &List) -> Option<i64> {
     settle_fields(&list.book())
         .ok()
         .map(|settled| settled.figures.total)
@@ -500,7 +506,7 @@ pub fn contract_near_settled(random: &mut Random) -> List {
 }
 
 /// A list of generators, numbers rising in steps.
-fn generators(random: &mut Random, least: u32, most: u32) -> List {
+pub(super) fn generators(random: &mut Random, least: u32, most: u32) -> List {
     let mut list = begun(random);
     for _ in 0..random.between(least, most) {
         let generator = generator(random, &list, 3_000_000);

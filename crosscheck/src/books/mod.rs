@@ -10,6 +10,7 @@ pub mod lending;
 pub mod lists;
 pub mod random;
 pub mod sequences;
+pub mod shortfalls;
 pub mod states;
 
 use damages::DAMAGES;

@@ -4,6 +4,7 @@
 use super::fields::{GeneratorFields, List, PointFields};
 use super::lists::KINDS;
 use super::random::Random;
+use super::shortfalls::SHORTFALL_KINDS;
 use crate::demand3::Call;
 use crate::limits::*;
 
@@ -20,16 +21,28 @@ pub struct Sequence {
     pub calls: Vec<Call>,
 }
 
-/// A sequence over a list of any kind.
-pub fn sequence(random: &mut Random) -> Sequence {
-    let (kind, make) = random.one_of(&KINDS);
-    let list = make(random);
+/// The sequence of a number: three of eight are over a list made for demand 3,
+/// the others over a list of any other kind.
+pub fn seeded_sequence(number: u64) -> Sequence {
+    let mut random = Random::new(number);
+    let (kind, make) = match number % 8 {
+        5 => SHORTFALL_KINDS[0],
+        6 => SHORTFALL_KINDS[1],
+        7 => SHORTFALL_KINDS[2],
+        _ => random.one_of(&KINDS),
+    };
+    let list = make(&mut random);
+    sequence_over(&mut random, kind, &list)
+}
+
+/// A sequence over a list.
+fn sequence_over(random: &mut Random, kind: &'static str, list: &List) -> Sequence {
     let mut head = list.head.value();
     let mut calendar = list.marks.to_vec();
     if random.once_in(30) {
         spoil_opening(random, &mut head, &mut calendar);
     }
-    let calls = calls(random, &list);
+    let calls = calls(random, list);
     Sequence {
         kind,
         head,

@@ -5,6 +5,7 @@ use super::lists::ordinary;
 use super::random::Random;
 use crate::ledger::{add, open, State};
 use crate::limits::*;
+use crate::terms::{Head, Terms};
 
 /// A kind of change to a state.
 type Change = fn(&mut Random, &mut State);
@@ -34,9 +35,9 @@ pub fn changed_state(random: &mut Random) -> State {
     state
 }
 
-/// A state of random bits in every field.
-pub fn any_state(random: &mut Random) -> State {
-    State {
+/// A head of random bits in every field.
+fn any_head(random: &mut Random) -> Head {
+    Head {
         year: random.bits() as u16,
         month: random.bits() as u8,
         day: random.bits() as u8,
@@ -44,7 +45,16 @@ pub fn any_state(random: &mut Random) -> State {
         losses: [0; CLASSES].map(|_: u16| random.bits() as u16),
         contract: random.bits() as u32,
         count: random.bits() as u32,
-        marks: [0; DAYS_BACK].map(|_: u8| random.bits() as u8),
+    }
+}
+
+/// A state of random bits in every field.
+pub fn any_state(random: &mut Random) -> State {
+    State {
+        terms: Terms {
+            head: any_head(random),
+            marks: [0; DAYS_BACK].map(|_: u8| random.bits() as u8),
+        },
         points: random.bits() as u32,
         totals: [0; WINDOW_SLOTS].map(|_: i64| random.bits() as i64),
         last: [0; NUMBER_LENGTH].map(|_: u8| random.bits() as u8),
@@ -52,7 +62,8 @@ pub fn any_state(random: &mut Random) -> State {
 }
 
 fn date(random: &mut Random, state: &mut State) {
-    (state.year, state.month, state.day) = random.one_of(&[
+    let head = &mut state.terms.head;
+    (head.year, head.month, head.day) = random.one_of(&[
         (0, 0, 0),
         (2019, 12, 31),
         (2020, 1, 1),
@@ -66,28 +77,30 @@ fn date(random: &mut Random, state: &mut State) {
 }
 
 fn first_slot(random: &mut Random, state: &mut State) {
-    state.first_slot = random.one_of(&[0, 17, 18, 34, 35, 255]);
+    state.terms.head.first_slot = random.one_of(&[0, 17, 18, 34, 35, 255]);
 }
 
 fn loss(random: &mut Random, state: &mut State) {
-    state.losses[random.place(CLASSES)] = random.one_of(&[0, 5_000, 5_001, 10_000, u16::MAX]);
+    let losses = &mut state.terms.head.losses;
+    losses[random.place(CLASSES)] = random.one_of(&[0, 5_000, 5_001, 10_000, u16::MAX]);
 }
 
 fn contract(random: &mut Random, state: &mut State) {
-    state.contract = random.one_of(&[0, 1, 999, 1_000, 10_000_000, 10_000_001, u32::MAX]);
+    state.terms.head.contract =
+        random.one_of(&[0, 1, 999, 1_000, 10_000_000, 10_000_001, u32::MAX]);
 }
 
 fn count(random: &mut Random, state: &mut State) {
     let points = state.points;
-    state.count = random.one_of(&[0, 1, points, 10_000, 10_001, 65_537, u32::MAX]);
+    state.terms.head.count = random.one_of(&[0, 1, points, 10_000, 10_001, 65_537, u32::MAX]);
 }
 
 fn mark(random: &mut Random, state: &mut State) {
-    state.marks[random.place(DAYS_BACK)] = random.one_of(&[0, 3, 4, 255]);
+    state.terms.marks[random.place(DAYS_BACK)] = random.one_of(&[0, 3, 4, 255]);
 }
 
 fn points(random: &mut Random, state: &mut State) {
-    let count = state.count;
+    let count = state.terms.head.count;
     state.points = random.one_of(&[0, 1, count, count.wrapping_add(1), u32::MAX]);
 }
 

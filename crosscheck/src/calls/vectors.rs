@@ -36,9 +36,9 @@ pub fn stored_calls() -> Vec<Call> {
 }
 
 /// Example M's head with count 3.
-const HEAD: HeadFields = HeadFields {
+const HEAD: Head = Head {
     count: 3,
-    ..HeadFields::EXAMPLE_M
+    ..Head::EXAMPLE_M
 };
 
 /// A calendar without marks.
@@ -61,10 +61,10 @@ const CONTRACTS: [u32; 10] = [
     10_000_001,
     u32::MAX,
 ];
-const COUNTS: [u16; 9] = [0, 1, 2, 255, 256, 9_999, 10_000, 10_001, u16::MAX];
+const COUNTS: [u32; 9] = [0, 1, 2, 255, 256, 9_999, 10_000, 10_001, 65_535];
 const MARKS: [u8; 5] = [1, 2, 3, 4, 255];
 
-fn opening(head: HeadFields, marks: [u8; DAYS_BACK]) -> Call {
+fn opening(head: Head, marks: [u8; DAYS_BACK]) -> Call {
     Call::Opening {
         head: head.value(),
         calendar: marks.to_vec(),
@@ -95,7 +95,7 @@ fn closing(state: &State) -> Call {
 }
 
 /// The state of an opening and some generators, whether accepted or not.
-fn state_after(head: HeadFields, marks: &[u8], generators: &[GeneratorFields]) -> State {
+fn state_after(head: Head, marks: &[u8], generators: &[GeneratorFields]) -> State {
     let (_, mut state) = open(&head.value(), marks);
     for generator in generators {
         (_, state) = add(
@@ -123,13 +123,13 @@ fn full_state() -> State {
     state_after(HEAD, &NO_MARKS, &generators)
 }
 
-/// Each field of head and calendar at its edges, the others as they should be.
-fn opening_edges() -> Vec<Call> {
-    let mut calls = vec![opening(HeadFields::EXAMPLE_M, NO_MARKS)];
-    let mut with = |change: &dyn Fn(&mut HeadFields)| {
-        let mut head = HEAD;
-        change(&mut head);
-        calls.push(opening(head, NO_MARKS));
+/// Window, losses and contract at their edges, one thing of a head at a time.
+fn heads_at_edges(head: Head) -> Vec<Head> {
+    let mut heads = Vec::new();
+    let mut with = |change: &dyn Fn(&mut Head)| {
+        let mut changed = head;
+        change(&mut changed);
+        heads.push(changed);
     };
     SLOTS
         .iter()
@@ -142,9 +142,15 @@ fn opening_edges() -> Vec<Call> {
     CONTRACTS
         .iter()
         .for_each(|&contract| with(&|head| head.contract = contract));
-    COUNTS
-        .iter()
-        .for_each(|&count| with(&|head| head.count = count));
+    heads
+}
+
+/// Each field of head and calendar at its edges, the others as they should be.
+fn opening_edges() -> Vec<Call> {
+    let mut calls = vec![opening(Head::EXAMPLE_M, NO_MARKS)];
+    let mut heads = heads_at_edges(HEAD);
+    heads.extend(COUNTS.map(|count| Head { count, ..HEAD }));
+    calls.extend(heads.into_iter().map(|head| opening(head, NO_MARKS)));
     for place in 0..DAYS_BACK {
         for mark in MARKS {
             let mut marks = NO_MARKS;
@@ -165,7 +171,7 @@ fn opening_dates() -> Vec<Call> {
     }
     dates.extend((1..=14).map(|day| (2024, 8, day)));
     let opening_on = |&(year, month, day): &(u16, u8, u8)| {
-        let head = HeadFields {
+        let head = Head {
             year,
             month,
             day,
@@ -245,26 +251,25 @@ fn changes_of(state: &State) -> Vec<State> {
         states.push(changed);
     };
     for &(year, month, day) in ALLOWED_DATES.iter().chain(&OTHER_DATES) {
-        with(&|state| (state.year, state.month, state.day) = (year, month, day));
+        let head = &state.terms.head;
+        let on_date = Head {
+            year,
+            month,
+            day,
+            ..*head
+        };
+        with(&|state| state.terms.head = on_date);
     }
-    SLOTS
-        .iter()
-        .for_each(|&slot| with(&|state| state.first_slot = slot));
-    for class in 0..CLASSES {
-        LOSSES
-            .iter()
-            .for_each(|&loss| with(&|state| state.losses[class] = loss));
+    for head in heads_at_edges(state.terms.head) {
+        with(&|state| state.terms.head = head);
     }
-    CONTRACTS
-        .iter()
-        .for_each(|&contract| with(&|state| state.contract = contract));
     for count in [0, 1, 2, 3, 4, 10_000, 10_001, 65_536, 65_539, u32::MAX] {
-        with(&|state| state.count = count);
+        with(&|state| state.terms.head.count = count);
     }
     for place in 0..DAYS_BACK {
         [3, 4, 255]
             .iter()
-            .for_each(|&mark| with(&|state| state.marks[place] = mark));
+            .for_each(|&mark| with(&|state| state.terms.marks[place] = mark));
     }
     for points in [0, 1, 2, 3, 4, 65_536, 65_537, u32::MAX] {
         with(&|state| state.points = points);
@@ -320,7 +325,7 @@ fn state_edges() -> Vec<Call> {
 /// A full state with another contract and totals.
 fn settled_state(contract: u32, totals: [i64; WINDOW_SLOTS]) -> State {
     let mut state = full_state();
-    state.contract = contract;
+    state.terms.head.contract = contract;
     state.totals = totals;
     state
 }
@@ -344,7 +349,7 @@ fn closing_edges() -> Vec<Call> {
         for total in [limit, limit - 1, limit + 1, -limit, 1 - limit, -limit - 1] {
             for contract in [0, 1_000, 10_000_000] {
                 let mut state = settled_state(contract, [total; WINDOW_SLOTS]);
-                (state.count, state.points) = (points, points);
+                (state.terms.head.count, state.points) = (points, points);
                 states.push(state);
             }
         }
@@ -372,8 +377,8 @@ fn seeded_states() -> Vec<Call> {
 /// Adding a generator with the faults of a set, 9 to 17.
 fn faulty_generator(faults: u32) -> Call {
     let mut state = begun_state();
-    state.marks[0] = if holds(faults, 9) { 4 } else { 3 };
-    state.count = if holds(faults, 10) { 1 } else { 2 };
+    state.terms.marks[0] = if holds(faults, 9) { 4 } else { 3 };
+    state.terms.head.count = if holds(faults, 10) { 1 } else { 2 };
     let number = if holds(faults, 15) { LAST } else { LAST + 1 };
     let mut generator = GeneratorFields::flat(number, 1_000_000, HIGHEST_READING);
     if holds(faults, 14) {
@@ -528,7 +533,7 @@ fn consumer_edges() -> Vec<Call> {
 fn faulty_consumer(faults: u32) -> Call {
     let mut state = begun_state();
     let mark = if holds(faults, 18) { 1 } else { 0 };
-    state.marks = [mark; DAYS_BACK];
+    state.terms.marks = [mark; DAYS_BACK];
     let mut consumer = level_consumer(3, HIGHEST_READING);
     consumer.number = point_number(LAST + u128::from(!holds(faults, 15)));
     if holds(faults, 14) {
@@ -556,9 +561,9 @@ fn eligible_days_left() -> Vec<Call> {
     for left in 0..=7 {
         for reading in [0, 500] {
             let mut state = begun_state();
-            let eligible = state.terms().eligible_days();
+            let eligible = state.terms.eligible_days();
             for &back in &eligible[left..] {
-                state.marks[usize::from(back) - 1] = 2;
+                state.terms.marks[usize::from(back) - 1] = 2;
             }
             let mut consumer = level_consumer(1, reading);
             consumer.window(0, HEAD.first_slot).fill(77);

@@ -187,8 +187,8 @@ fn naive_consumer(list: &List, consumer: &mut ConsumerFields) -> Option<Vec<Frac
 }
 
 /// Example M's head with a count, no marks, no points.
-pub fn list_of_count(count: u16) -> List {
-    let mut list = List::new(HeadFields::EXAMPLE_M);
+pub fn list_of_count(count: u32) -> List {
+    let mut list = List::new(Head::EXAMPLE_M);
     list.head.count = count;
     list
 }

@@ -6,7 +6,7 @@ use std::io::Write;
 use std::process::{Command, Stdio};
 
 use settlement::books::examples::consumer_of_example_h;
-use settlement::books::fields::{GeneratorFields, HeadFields, List, PointFields};
+use settlement::books::fields::{GeneratorFields, Head, List, PointFields};
 use settlement::books::seeded_book;
 use settlement::text::settle_book_text;
 
@@ -29,7 +29,7 @@ fn printed(program: &str, book: &[u8]) -> Vec<u8> {
 
 /// A book of many points, of which every tenth is a consumer.
 fn long_book(points: u32) -> Vec<u8> {
-    let mut list = List::new(HeadFields::EXAMPLE_M);
+    let mut list = List::new(Head::EXAMPLE_M);
     for number in 1..=points {
         list.push(match number % 10 {
             0 => PointFields::Consumer(consumer_of_example_h(u128::from(number), number * 7 % 3_000)),
