@@ -22,7 +22,7 @@ use Rattle.fields.specs.declared.Field.{Field}
 use Rattle.fields.specs.declared.Field.the-variants.{Value, Refused}
 use Rattle.fields.proofs.Answers.{cut-within}
 use Rattle.book.proofs.Readings.{Told, book-told}
-use Rattle.book.proofs.Figures.{closes}
+use Rattle.book.proofs.Closings.{closes}
 
 -- ---- points
 

@@ -1,6 +1,4 @@
-pub mod Cutting
 pub mod Readings
-pub mod RoundTrips
-pub mod Figures
+pub mod Closings
 pub mod Endings
 pub mod Results

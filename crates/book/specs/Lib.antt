@@ -2,4 +2,3 @@ pub mod Reading
 pub mod Endings
 pub mod Settling
 pub mod Results
-pub mod Demand2

@@ -12,8 +12,8 @@ use Rattle.fields.specs.Headers.{headerRefusal}
 use Rattle.fields.specs.declared.Due.{Due}
 use Rattle.fields.proofs.Headers.{length-small, header-good, Header, header-shows}
 use Rattle.fields.proofs.Answers.{field-good, Answer, no-header, no-value, whole, answer}
 use Rattle.book.specs.Reading.{good, Part, field}
-use Rattle.book.specs.Demand2.{Bytes}
+use Rattle.round_trips.specs.Demand2.{Bytes}
 
 drop-three : {A : Type 0} (n : ℕ) (a b c : A) (xs : List A) → drop (3 + n) (a ∷ b ∷ c ∷ xs) ≡ drop n xs
 drop-three n a b c xs = let e : 3 + n ≡ suc (suc (suc n)) = omega arith in rw e

@@ -23,12 +23,12 @@ use Rattle.ledger.specs.declared.State.{State}
 use Rattle.heads.proofs.Opening.{opening-lengths}
 use Rattle.ledger.proofs.Sound.{open-refusal, open-good, add-refusal, add-good, Sound, opened-sound, adding-sound, taken-sound}
 use Rattle.fields.specs.Fields.{written}
 use Rattle.book.specs.Reading.{good, Points, before, readPoints, bookOf, readBook}
 use Rattle.fields.specs.Writing.{pointWritingTests, pointWritingRefusal}
-use Rattle.book.specs.Demand2.{risesAfter, rises, roomFor, Each, Bytes, ReadsBack, WritesSame, writtenBook}
+use Rattle.round_trips.specs.Demand2.{risesAfter, rises, roomFor, Each, Bytes, ReadsBack, WritesSame, writtenBook}
 use Rattle.fields.specs.declared.Due.the-variants as due
-use Rattle.book.proofs.Cutting.{reads-field, was-written}
+use Rattle.round_trips.proofs.Cutting.{reads-field, was-written}
 use Rattle.book.proofs.Readings.{Points-read, none, more, book-read}
 
 -- ---- rising numbers, from a number of points and the last number on
 

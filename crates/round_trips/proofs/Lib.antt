@@ -1,0 +1,3 @@
+pub mod Cutting
+pub mod RoundTrips
+pub mod Figures
