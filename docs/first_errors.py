@@ -17,7 +17,7 @@ WORDS = [
     (r"give a proof of that as the last argument.*", "the equation does not hold after rewriting"),
     (r"list the missing equation.*", "`cc`: the equation does not follow"),
     (r".*: no occurrence of the path's .*|`simp`: no equation of the list .*", "the equation does not speak of what is due"),
-    (r".*the two (types|sides) .*|expected type .*|`borrow\..*|`omega` does not read .*", "the fact that is due and the one that is proved differ"),
+    (r".*the two (types|sides|indices) .*|expected type .*|`borrow\..*|`omega` does not read .*", "the fact that is due and the one that is proved differ"),
 ]
 
 
