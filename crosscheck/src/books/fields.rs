@@ -33,6 +33,12 @@ pub fn point_number(number: u128) -> [u8; NUMBER_LENGTH] {
     bytes
 }
 
+/// The readings behind the front of a point's value, four bytes each.
+fn with_readings(mut front: Vec<u8>, readings: &[u32]) -> Vec<u8> {
+    front.extend(readings.iter().flat_map(|reading| reading.to_be_bytes()));
+    front
+}
+
 /// A consumer's parts.
 #[derive(Clone, Debug, PartialEq, Eq)]
 pub struct ConsumerFields {
@@ -85,14 +91,9 @@ impl ConsumerFields {
 
     /// The consumer value.
     pub fn value(&self) -> Vec<u8> {
-        let mut value = self.number.to_vec();
-        value.push(self.class);
-        value.extend(
-            self.readings
-                .iter()
-                .flat_map(|reading| reading.to_be_bytes()),
-        );
-        value
+        let mut front = self.number.to_vec();
+        front.push(self.class);
+        with_readings(front, &self.readings)
     }
 }
 
@@ -119,14 +120,9 @@ impl GeneratorFields {
 
     /// The generator value.
     pub fn value(&self) -> Vec<u8> {
-        let mut value = self.number.to_vec();
-        value.extend(self.baseline.to_be_bytes());
-        value.extend(
-            self.readings
-                .iter()
-                .flat_map(|reading| reading.to_be_bytes()),
-        );
-        value
+        let mut front = self.number.to_vec();
+        front.extend(self.baseline.to_be_bytes());
+        with_readings(front, &self.readings)
     }
 }
 
