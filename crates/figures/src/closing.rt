@@ -10,6 +10,9 @@ use crate::Figures;
 // Watt-hours of three hours in one kW: the step from the total to the settled capacity.
 const WATT_HOURS: u32 = 3000;
 
+// kW of an expected capacity that may be bid.
+const LEAST_BID: u64 = 1000;
+
 // Contract less settled, or 0 where that is negative.
 fn shortfall_of(contract: u32, settled: i64) -> u64
     requires { ⌜ natAbs settled < 9000000000000000000 ⌝ }
@@ -51,7 +54,7 @@ pub fn figures_of(contract: u32, totals: [i64; 6], points: u32) -> Figures
         kept,
         surplus: expected - kept,
         points,
-        bid: 1000 <= expected,
+        bid: LEAST_BID <= expected,
     }
 }
 
