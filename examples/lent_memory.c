@@ -153,7 +153,7 @@ static void try_null(const uint8_t *book, size_t length)
     check(tembuyas_write_point(0, NULL, 0, NULL, 0) == TEMBUYAS_POINT_TAG, "no point");
     check(tembuyas_write_point(TEMBUYAS_TAG_CONSUMER, NULL, 0, NULL, 0) == TEMBUYAS_POINT_LENGTH, "no consumer");
     check(tembuyas_write_point(TEMBUYAS_TAG_GENERATOR, NULL, 0, out, 64) == TEMBUYAS_POINT_LENGTH, "no generator");
-    check(tembuyas_write_point(TEMBUYAS_TAG_GENERATOR, generator, 50, NULL, 0) == TEMBUYAS_LENT_BYTES, "no room for it");
+    check(tembuyas_write_point(TEMBUYAS_TAG_GENERATOR, generator, 50, NULL, 0) == TEMBUYAS_LENT_BYTES, "no room");
 }
 
 /* Head and calendar into rooms of every length around what they need. */
@@ -193,7 +193,7 @@ static void try_writing_point(uint8_t tag, size_t right)
             uint32_t refusal = tembuyas_write_point(tag, lent, length, out, room);
             size_t written = length == right && room >= 3 + right ? 3 + right : 0;
             uint32_t due = written ? TEMBUYAS_ACCEPTED : TEMBUYAS_LENT_BYTES;
-            check(refusal == (length == right ? due : TEMBUYAS_POINT_LENGTH), "a point has one length and needs 3 more");
+            check(refusal == (length == right ? due : TEMBUYAS_POINT_LENGTH), "a point has one length, and 3 more");
             check(!written || (out[0] == tag && out[1] == right / 256 && out[2] == right % 256), "tag and length");
             check(!written || !memcmp(out + 3, value, right), "the value is written as it is");
             check(rest_is_filled(outs, out, written), "bytes behind a point keep their values");
