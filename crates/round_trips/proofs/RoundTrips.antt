@@ -16,7 +16,8 @@ use Rattle.numbers.specs.PointNumbers.{below}
 use Rattle.numbers.proofs.Refusals.{testOf, untold, clear-zero}
 use Rattle.numbers.proofs.Tests.{no-false}
 use Rattle.heads.specs.Heads.{headOf, openingRefusal}
-use Rattle.points.specs.Points.{Point, kindOf, numberOf, lacksDays}
+use Rattle.points.specs.Points.{Point, kindOf, numberOf}
+use Rattle.results.specs.SlotResults.{lacksDays}
 use Rattle.ledger.specs.States.{opened, taken}
 use Rattle.ledger.specs.Operations.{pointTests, pointRefusal, addingTests, addingRefusal, resultsOf, addOf}
 use Rattle.heads.specs.declared.Head.{Head}

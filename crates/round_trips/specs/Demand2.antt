@@ -9,7 +9,8 @@ use lib.ListN.{length, getD}
 use Rattle.numbers.specs.Lists.{gather}
 use Rattle.numbers.specs.PointNumbers.{below}
 use Rattle.heads.specs.Heads.{headOf}
-use Rattle.points.specs.Points.{Point, kindOf, numberOf, lacksDays}
+use Rattle.points.specs.Points.{Point, kindOf, numberOf}
+use Rattle.results.specs.SlotResults.{lacksDays}
 use Rattle.ledger.specs.Operations.{closeOf}
 use Rattle.book.specs.Reading.{good, Contents, Book, readBook}
 use Rattle.fields.specs.Fields.{written}
