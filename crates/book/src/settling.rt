@@ -89,10 +89,13 @@ fn read(book: &[u8]) -> Ending
 pub fn close(ending: Ending) -> Closed
     ensures { λ r. ⌜ r ≡ closedAfter ending ⌝ }
 {
-    let refusal = ending.refusal;
-    if refusal != heads::refusals::ACCEPTED {
+    let told = ending.refusal;
+    if told != heads::refusals::ACCEPTED {
         let figures = figures::closing::no_figures();
-        return Closed { refusal, figures };
+        return Closed {
+            refusal: told,
+            figures,
+        };
     }
     let state = ending.state;
     ledger::close(state)
