@@ -1,5 +1,8 @@
+pub mod Moving
 pub mod EarlyRows
 pub mod Taking
 pub mod Sound
+pub mod Totals
 pub mod TotalBounds
 pub mod AddSteps
+pub mod Within
