@@ -1,2 +1,2 @@
-pub mod PointRows
+pub mod Forms
 pub mod SlotExamples
