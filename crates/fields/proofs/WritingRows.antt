@@ -8,10 +8,11 @@ use borrow.Author.Tests.{eqb-true, not-false, lt-ltb, le-ltb, ne-eqb}
 use lib.ListN.{length}
 use Rattle.numbers.specs.Refusals.{firstOf}
 use Rattle.numbers.specs.PointNumbers.{isNumber}
+use Rattle.numbers.specs.Placing.{atFront}
 use Rattle.numbers.proofs.Refusals.{untold, told, passed}
 use Rattle.points.specs.Points.{kindOf, sizeOf, numberOf, formRows, numberRow, valueRows}
 use Rattle.fields.specs.Fields.{written}
-use Rattle.fields.specs.Writing.{atFront, roomRow, valueWritingTests, valueWritingRefusal, pointWritingRefusal, pointWritingOut}
+use Rattle.fields.specs.Writing.{roomRow, valueWritingTests, valueWritingRefusal, pointWritingRefusal, pointWritingOut}
 use Rattle.fields.proofs.Headers.{kind-small}
 
 module _ (tag : ℕ) (value : List ℕ) where

@@ -3,15 +3,12 @@ use mathlib.Core.Bool.{Bool, cond}
 use mathlib.Core.List.{List, [], _∷_, _++_}
 use Prim.Native.Nat.{ℕ, _+_}
 use lib.Dec.{ltb, eqb}
-use lib.ListN.{length, drop}
+use lib.ListN.{length}
 use Rattle.numbers.specs.Refusals.{firstOf}
+use Rattle.numbers.specs.Placing.{atFront}
 use Rattle.heads.specs.Heads.{openingTests}
 use Rattle.points.specs.Points.{numberOf, formRows, numberRow, valueRows}
 use Rattle.fields.specs.Fields.{written}
-
--- at the front of the lent bytes; 'bytes behind it keep their values'
-abbrev pub atFront : List ℕ → List ℕ → List ℕ
-atFront bytes out = bytes ++ drop (length bytes) out
 
 -- '40: too few bytes'
 abbrev pub roomRow : ℕ → ℕ → List (Bool × ℕ)
