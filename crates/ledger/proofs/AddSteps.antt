@@ -9,7 +9,8 @@ use lib.ListN.{length, getD}
 use borrow.Author.Tests.{leb-false, eqb-true, not-false, eq-eqb, ne-eqb}
 use Rattle.numbers.specs.Refusals.{firstOf}
 use Rattle.numbers.proofs.Refusals.{testOf, untold, told, passed}
-use Rattle.points.specs.Points.{Kind, kindOf, isUnknown, sizeOf, isUnfit, hasLarge, lacksDays, results}
+use Rattle.points.specs.Points.{Kind, kindOf, isUnknown, sizeOf, isUnfit, hasLarge}
+use Rattle.results.specs.SlotResults.{lacksDays, results}
 use Rattle.ledger.specs.Operations.{addingRefusal, placesOf, resultsOf}
 use Rattle.ledger.specs.Steps.{earlyTests, earlyRefusal}
 use Rattle.heads.specs.declared.Head.{Head}

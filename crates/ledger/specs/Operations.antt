@@ -8,7 +8,8 @@ use lib.ListN.{length}
 use Rattle.numbers.specs.Refusals.{firstOf}
 use Rattle.numbers.specs.PointNumbers.{isNumber, below}
 use Rattle.heads.specs.Heads.{headOf, openingRefusal}
-use Rattle.points.specs.Points.{kindOf, isUnknown, sizeOf, numberOf, isUnfit, hasLarge, lacksDays, results}
+use Rattle.points.specs.Points.{kindOf, isUnknown, sizeOf, numberOf, isUnfit, hasLarge}
+use Rattle.results.specs.SlotResults.{lacksDays, results}
 use Rattle.ledger.specs.States.{opened, noState, isUnsound, taken}
 use Rattle.figures.specs.Figures.{figuresOf, noFigures}
 use Rattle.heads.specs.declared.Head.{Head}
