@@ -8,9 +8,11 @@ use lib.ListN.{length, getD, set, take, drop, drop-of-length-le, length-append, 
 use lib.Seq.{paste, take-all, take-length, take-at, drop-at, drop-drop}
 use borrow.Rule.Slice.PartMut.{putMid}
 use Rattle.numbers.specs.Words.{bytesOf}
+use Rattle.numbers.specs.Placing.{atFront}
+use Rattle.numbers.proofs.Places.{front-length}
 use Rattle.fields.specs.Fields.{written}
 use Rattle.heads.specs.Heads.{openingRefusal}
-use Rattle.fields.specs.Writing.{atFront, writtenHead, headWritingRefusal, headWritingOut}
+use Rattle.fields.specs.Writing.{writtenHead, headWritingRefusal, headWritingOut}
 
 -- ---- the answer and the lent bytes, in each case
 
@@ -51,9 +53,6 @@ headed-value (x ∷ y ∷ z ∷ out) value tag h = let e : 3 + length value ≡ 
 pub written-length : (tag : ℕ) (value : List ℕ) → length (written tag value) ≡ 3 + length value
 unfolding bytesOf
 written-length tag value = omega arith
-
-pub front-length : (bytes out : List ℕ) → length bytes ≤ length out → length (atFront bytes out) ≡ length out
-front-length bytes out h = simp (length-append, length-drop) (omega arith)
 
 -- ---- a head and a calendar
 

@@ -8,11 +8,12 @@ use borrow.Author.Tests.{eqb-true, not-false, lt-ltb, le-ltb, ne-eqb}
 use lib.ListN.{length, drop}
 use Rattle.numbers.specs.Refusals.{firstOf}
 use Rattle.numbers.specs.PointNumbers.{isNumber}
+use Rattle.numbers.specs.Placing.{atFront}
 use Rattle.numbers.proofs.Refusals.{untold, told, passed}
 use Rattle.points.specs.Points.{kindOf, sizeOf, numberOf}
 use Rattle.points.proofs.PointRows.{formRows, valueRows}
 use Rattle.fields.specs.Fields.{written}
-use Rattle.fields.specs.Writing.{atFront, pointWritingTests, pointWritingRefusal, pointWritingOut}
+use Rattle.fields.specs.Writing.{pointWritingTests, pointWritingRefusal, pointWritingOut}
 use Rattle.fields.specs.WritingRows.{writingRows, writingTold}
 use Rattle.fields.proofs.Headers.{kind-small}
 

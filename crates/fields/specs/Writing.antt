@@ -3,16 +3,13 @@ use mathlib.Core.Bool.{Bool, cond, not}
 use mathlib.Core.List.{List, [], _∷_, _++_}
 use Prim.Native.Nat.{ℕ, _+_}
 use lib.Dec.{ltb, eqb}
-use lib.ListN.{length, drop}
+use lib.ListN.{length}
 use Rattle.numbers.specs.Refusals.{firstOf}
+use Rattle.numbers.specs.Placing.{atFront}
 use Rattle.numbers.specs.PointNumbers.{isNumber}
 use Rattle.heads.specs.Heads.{openingRefusal}
 use Rattle.points.specs.Points.{kindOf, isUnknown, sizeOf, numberOf, isUnfit, hasLarge}
 use Rattle.fields.specs.Fields.{written}
-
--- at the front of the lent bytes; 'bytes behind it keep their values'
-abbrev pub atFront : List ℕ → List ℕ → List ℕ
-atFront bytes out = bytes ++ drop (length bytes) out
 
 -- A HEAD with its calendar: 53 bytes
 abbrev pub writtenHead : List ℕ → List ℕ → List ℕ

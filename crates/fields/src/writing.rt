@@ -2,8 +2,9 @@
 ghost use mathlib.Core.Path.{_≡_};
 ghost use Prim.Native.Nat.{ℕ, _+_, _<_, _≤_};
 ghost use lib.ListN.{length};
+ghost use Rattle.numbers.specs.Placing.{atFront};
 ghost use Rattle.fields.specs.Fields.{written};
-ghost use Rattle.fields.specs.Writing.{atFront, headWritingRefusal, headWritingOut, pointWritingRefusal, pointWritingOut};
+ghost use Rattle.fields.specs.Writing.{headWritingRefusal, headWritingOut, pointWritingRefusal, pointWritingOut};
 ghost use Rattle.fields.specs.WritingRows.{writingTold};
 use crate::refusals;
 
