@@ -2,7 +2,7 @@
  *
  *     settlement_screen FILE
  *
- * Exit status: 0 settled, 1 refused, 2 the file could not be read. */
+ * Exit status: 0 settled, 1 refused, 2 the file could not be read, 3 the figures could not be written. */
 #include <errno.h>
 #include <inttypes.h>
 #include <stdio.h>
@@ -10,112 +10,97 @@
 #include <string.h>
 
 #include "tembuyas.h"
+#include "words.h"
 
-/* Bytes beside the lent ones, which must keep their values. */
-#define GUARD 32
-#define GUARD_BYTE 0xA5
+enum { SETTLED = 0, REFUSED = 1, NOT_READ = 2, NOT_WRITTEN = 3 };
 
-static const char *in_words(uint32_t refusal)
+struct bytes {
+    uint8_t *first;
+    size_t length;
+};
+
+/* All that is left of a file, or NULL and errno. */
+static struct bytes rest_of(FILE *file)
 {
-    switch (refusal) {
-    case TEMBUYAS_HEAD_LENGTH: return "the head has not 17 bytes or the calendar not 30";
-    case TEMBUYAS_NO_SUCH_DATE: return "no such date from 2020-01-01 to 2099-12-31";
-    case TEMBUYAS_WEEKEND: return "the test day is a Saturday or Sunday";
-    case TEMBUYAS_WINDOW_SLOT: return "the window does not lie between 9:00 and 20:00";
-    case TEMBUYAS_LOSS: return "a loss is above 50.00 percent";
-    case TEMBUYAS_CONTRACT: return "the contract is neither 0 nor 1,000 to 10,000,000 kW";
-    case TEMBUYAS_COUNT: return "the point count is not 1 to 10,000";
-    case TEMBUYAS_MARK: return "a calendar mark is above 3";
-    case TEMBUYAS_POINT_TAG: return "a field where a point is due has another tag";
-    case TEMBUYAS_POINT_LENGTH: return "a point field has not the length of its tag";
-    case TEMBUYAS_POINT_NUMBER: return "a point number is not 22 digits, or not issued yet";
-    case TEMBUYAS_NUMBER_NOT_ABOVE: return "point numbers do not rise";
-    case TEMBUYAS_CLASS_OR_BASELINE: return "a voltage class or a generator's baseline is not allowed";
-    case TEMBUYAS_READING: return "a reading is above 1,000,000,000 Wh";
-    case TEMBUYAS_TOO_FEW_DAYS: return "a consumer has fewer than four days for its baseline";
-    case TEMBUYAS_COUNT_NOT_REACHED: return "the book has fewer points than its head says";
-    case TEMBUYAS_BOOK_CUT: return "the book ends within a field";
-    case TEMBUYAS_WRONG_TAG: return "the head or the calendar is not where it belongs";
-    case TEMBUYAS_BYTES_AFTER: return "bytes follow the last point";
-    default: return "an unexpected refusal";
+    struct bytes book = { NULL, 0 };
+    size_t room = 0;
+    for (;;) {
+        if (book.length == room) {
+            room = room ? 2 * room : 1 << 16;
+            uint8_t *more = realloc(book.first, room);
+            if (!more)
+                break;
+            book.first = more;
+        }
+        size_t count = fread(book.first + book.length, 1, room - book.length, file);
+        if (ferror(file))
+            break;
+        if (count == 0)
+            return book;
+        book.length += count;
     }
+    int error = errno;
+    free(book.first);
+    errno = error;
+    return (struct bytes){ NULL, 0 };
 }
 
-static int64_t word(const uint8_t *result, int which)
-{
-    uint64_t bits = 0;
-    for (int i = 0; i < 8; i++)
-        bits = bits << 8 | result[which * 8 + i];
-    int64_t value;
-    memcpy(&value, &bits, sizeof value);
-    return value;
-}
-
-static uint8_t *whole_file(const char *name, size_t *length)
+static struct bytes read_book(const char *name)
 {
     FILE *file = fopen(name, "rb");
     if (!file)
-        return NULL;
-    size_t room = 1 << 16;
-    uint8_t *bytes = malloc(room + 1);
-    *length = 0;
-    while (bytes) {
-        *length += fread(bytes + *length, 1, room - *length, file);
-        if (*length < room)
-            break;
-        room *= 2;
-        uint8_t *more = realloc(bytes, room + 1);
-        if (!more)
-            free(bytes);
-        bytes = more;
-    }
-    if (bytes && ferror(file)) {
-        free(bytes);
-        bytes = NULL;
-    }
+        return (struct bytes){ NULL, 0 };
+    struct bytes book = rest_of(file);
+    int error = errno;
     fclose(file);
-    return bytes;
+    errno = error;
+    return book;
 }
 
-static void show(const uint8_t *result)
+static void show_figure(const char *name, const uint8_t *result, enum tembuyas_word word, const char *unit)
 {
-    printf("points               %10" PRId64 "\n", word(result, TEMBUYAS_POINTS));
-    printf("total                %10" PRId64 " Wh\n", word(result, TEMBUYAS_TOTAL));
-    printf("settled capacity     %10" PRId64 " kW\n", word(result, TEMBUYAS_SETTLED));
-    printf("shortfall            %10" PRId64 " kW\n", word(result, TEMBUYAS_SHORTFALL));
-    printf("expected capacity    %10" PRId64 " kW\n", word(result, TEMBUYAS_EXPECTED));
-    printf("kept                 %10" PRId64 " kW\n", word(result, TEMBUYAS_KEPT));
-    printf("surplus              %10" PRId64 " kW\n", word(result, TEMBUYAS_SURPLUS));
-    printf("may be bid           %10s\n", word(result, TEMBUYAS_BID) ? "yes" : "no");
+    printf("%-20s %10" PRId64 "%s\n", name, result_word(result, word), unit);
+}
+
+static void show_result(const uint8_t *result)
+{
+    show_figure("points", result, TEMBUYAS_POINTS, "");
+    show_figure("total", result, TEMBUYAS_TOTAL, " Wh");
+    show_figure("settled capacity", result, TEMBUYAS_SETTLED, " kW");
+    show_figure("shortfall", result, TEMBUYAS_SHORTFALL, " kW");
+    show_figure("expected capacity", result, TEMBUYAS_EXPECTED, " kW");
+    show_figure("kept", result, TEMBUYAS_KEPT, " kW");
+    show_figure("surplus", result, TEMBUYAS_SURPLUS, " kW");
+    printf("%-20s %10s\n", "may be bid", result_word(result, TEMBUYAS_BID) ? "yes" : "no");
+}
+
+static void show_refusal(uint32_t refusal, size_t book_length)
+{
+    int empty = refusal == TEMBUYAS_BOOK_CUT && book_length == 0;
+    printf("refused %" PRIu32 ": %s\n", refusal, empty ? "the book is empty" : refusal_in_words(refusal));
 }
 
 int main(int argc, char **argv)
 {
     if (argc != 2) {
         fprintf(stderr, "usage: settlement_screen FILE\n");
-        return 2;
+        return NOT_READ;
     }
-    size_t length;
-    uint8_t *book = whole_file(argv[1], &length);
-    if (!book) {
+    struct bytes book = read_book(argv[1]);
+    if (!book.first) {
         fprintf(stderr, "settlement_screen: %s: %s\n", argv[1], strerror(errno));
-        return 2;
+        return NOT_READ;
     }
-    uint8_t lent[GUARD + TEMBUYAS_RESULT_BYTES + GUARD];
-    memset(lent, GUARD_BYTE, sizeof lent);
-    uint32_t refusal = tembuyas_settle_book(book, length, lent + GUARD, TEMBUYAS_RESULT_BYTES);
-    free(book);
-    for (size_t i = 0; i < sizeof lent; i++) {
-        int beside = i < GUARD || i >= GUARD + TEMBUYAS_RESULT_BYTES;
-        if ((beside || refusal) && lent[i] != GUARD_BYTE) {
-            fprintf(stderr, "settlement_screen: a byte that should keep its value was changed\n");
-            return 2;
-        }
+    uint8_t result[TEMBUYAS_RESULT_BYTES];
+    uint32_t refusal = tembuyas_settle_book(book.first, book.length, result, sizeof result);
+    free(book.first);
+    if (refusal)
+        show_refusal(refusal, book.length);
+    else
+        show_result(result);
+    if (fflush(stdout) || ferror(stdout)) {
+        fprintf(stderr, "settlement_screen: the figures cannot be written: %s\n", strerror(errno));
+        return NOT_WRITTEN;
     }
-    if (refusal) {
-        printf("refused %" PRIu32 ": %s\n", refusal, in_words(refusal));
-        return 1;
-    }
-    show(lent + GUARD);
-    return 0;
+    return refusal ? REFUSED : SETTLED;
 }

@@ -13,7 +13,8 @@ use borrow.Author.Tests.{ne-eqb}
 use Rattle.numbers.specs.Lists.{any, gather}
 use Rattle.integers.specs.Integers.{divides, sumℤ}
 use Rattle.heads.specs.Heads.{headOf, openingRefusal}
-use Rattle.points.specs.Points.{Point, kindOf, numberOf, quotients, results}
+use Rattle.points.specs.Points.{Point, kindOf, numberOf}
+use Rattle.results.specs.SlotResults.{quotients, results}
 use Rattle.figures.specs.SlotTotals.{plus}
 use Rattle.ledger.specs.States.{noState, taken}
 use Rattle.figures.specs.Figures.{settledOf, figuresOf}

@@ -14,7 +14,8 @@ use Rattle.numbers.specs.Words.{word32}
 use Rattle.integers.specs.Integers.{divides}
 use Rattle.numbers.proofs.Filling.{any-append}
 use Rattle.integers.proofs.Floors.{divides-one}
-use Rattle.points.specs.Points.{Point, Kind, consumer, generator, unknown, kindOf, classOf, isUnfit, baselineOf, readingsOf, generatorQuotient, quotients}
+use Rattle.points.specs.Points.{Point, Kind, consumer, generator, unknown, kindOf, classOf, isUnfit, baselineOf, readingsOf}
+use Rattle.results.specs.SlotResults.{generatorQuotient, quotients}
 use Rattle.account.specs.Account.{partsOfWh}
 use Rattle.account.specs.Demand3.{divisionsBy, divisions, allQuotients}
 use Rattle.heads.specs.declared.Head.{Head}

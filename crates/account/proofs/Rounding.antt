@@ -18,7 +18,7 @@ use Rattle.numbers.specs.Lists.{any}
 use Rattle.integers.specs.Integers.{floorDiv, divides, orZero, sumℤ}
 use Rattle.integers.proofs.Differences.{by⊖, ⊖s}
 use Rattle.integers.proofs.Floors.{rest, rest-<, rest-is, divides-rest}
-use Rattle.points.specs.Points.{Quotient, rounded}
+use Rattle.results.specs.SlotResults.{Quotient, rounded}
 use Rattle.figures.specs.Figures.{settledOf, shortfallOf}
 use Rattle.numbers.proofs.Tests.{every, every-cons}
 

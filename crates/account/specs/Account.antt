@@ -9,7 +9,8 @@ use lib.IntN.{ℤ, pos, _+ℤ_, _-ℤ_, _*ℤ_}
 use lib.ListN.{getD, replicate}
 use Rattle.integers.specs.Integers.{orZero, sumℤ}
 use Rattle.heads.specs.Heads.{headOf, openingRefusal}
-use Rattle.points.specs.Points.{Quotient, kindOf, numberOf, quotients}
+use Rattle.points.specs.Points.{kindOf, numberOf}
+use Rattle.results.specs.SlotResults.{Quotient, quotients}
 use Rattle.ledger.specs.Operations.{pointRefusal}
 use Rattle.ledger.specs.Calls.{Call, adding, closing}
 use Rattle.heads.specs.declared.Head.{Head}

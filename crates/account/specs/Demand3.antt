@@ -12,7 +12,8 @@ use lib.ListN.{length}
 use Rattle.numbers.specs.Lists.{any, gather}
 use Rattle.integers.specs.Integers.{floorDiv, divides, sumℤ}
 use Rattle.heads.specs.Heads.{headOf}
-use Rattle.points.specs.Points.{Point, Kind, consumer, generator, unknown, Quotient, kindOf, quotients, rounded}
+use Rattle.points.specs.Points.{Point, Kind, consumer, generator, unknown, kindOf}
+use Rattle.results.specs.SlotResults.{Quotient, quotients, rounded}
 use Rattle.account.specs.Account.{Account, opening, takes, after, Said, partsOfkW, partsOfWatt, partsOfWh, account}
 use Rattle.heads.specs.declared.Head.{Head}
 use Rattle.figures.specs.declared.Figures.{Figures}

@@ -1,5 +1,8 @@
+<<<<<<< HEAD
 pub mod Moving
 pub mod EarlyRows
+=======
+>>>>>>> main
 pub mod Taking
 pub mod Sound
 pub mod Totals

@@ -12,7 +12,8 @@ use Rattle.numbers.specs.PointNumbers.{isNumber, below}
 use Rattle.numbers.proofs.Refusals.{untold}
 use Rattle.numbers.proofs.Tests.{noneOf, any-map}
 use Rattle.heads.specs.Limits.{mostResult}
-use Rattle.points.specs.Points.{Kind, kindOf, isUnknown, sizeOf, numberOf, isUnfit, hasLarge, lacksDays, quotients, results}
+use Rattle.points.specs.Points.{Kind, kindOf, isUnknown, sizeOf, numberOf, isUnfit, hasLarge}
+use Rattle.results.specs.SlotResults.{lacksDays, quotients, results}
 use Rattle.heads.specs.declared.Head.{Head}
 use Rattle.heads.proofs.Opening.{passed, Opens}
 use Rattle.results.proofs.Bounds.{isBeyond, none-beyond, small-by, six-by}

@@ -11,7 +11,7 @@ use borrow.Author.Tests.{ne-eqb}
 use Rattle.numbers.specs.Lists.{run}
 use Rattle.numbers.proofs.Filling.{run-at, run-length}
 use Rattle.heads.specs.Heads.{headOf}
-use Rattle.points.specs.Points.{Point, numberOf, results}
+use Rattle.points.specs.Points.{Point, numberOf}
 use Rattle.ledger.specs.States.{opened, noState, slotTotals, taken}
 use Rattle.ledger.specs.Operations.{addingRefusal}
 use Rattle.ledger.specs.Calls.{Call, adding, closing, replies, stateAfter, pointsTaken}

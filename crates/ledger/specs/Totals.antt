@@ -7,7 +7,8 @@ use lib.ListN.{length, getD, replicate}
 use Rattle.numbers.specs.Lists.{run}
 use Rattle.integers.specs.Integers.{sumℤ}
 use Rattle.heads.specs.Heads.{headOf}
-use Rattle.points.specs.Points.{Point, kindOf, numberOf, results}
+use Rattle.points.specs.Points.{Point, kindOf, numberOf}
+use Rattle.results.specs.SlotResults.{results}
 use Rattle.ledger.specs.States.{noState, slotTotals}
 use Rattle.ledger.specs.Operations.{openOf}
 use Rattle.ledger.specs.Calls.{Call, replies, stateAfter, pointsTaken}

@@ -1,2 +1,1 @@
-pub mod PointRows
-pub mod SlotExamples
+pub mod Forms

@@ -24,7 +24,8 @@ use Rattle.baseline.proofs.Bounds.{chosen-days-back, chosen-days-four}
 use Rattle.heads.specs.Limits.{mostLoss, mostBaseline, mostResult}
 use Rattle.heads.specs.Heads.{testDay}
 use Rattle.heads.proofs.Opening.{Opens}
-use Rattle.points.specs.Points.{Kind, consumer, generator, unknown, isUnknown, isUnfit, hasLarge, readingsOf, readingCount, lossOf, baselineOf, consumerQuotient, generatorQuotient, quotients, rounded}
+use Rattle.points.specs.Points.{Kind, consumer, generator, unknown, isUnknown, isUnfit, hasLarge, readingsOf, readingCount, baselineOf}
+use Rattle.results.specs.SlotResults.{lossOf, consumerQuotient, generatorQuotient, quotients, rounded}
 use Rattle.heads.specs.declared.Head.{Head}
 use Rattle.numbers.proofs.Tests.{no-false, noneOf, none-run}
 

@@ -16,7 +16,8 @@ use Rattle.baseline.specs.Baseline.{chosenDays, baseline}
 use Rattle.baseline.specs.Days.{choice}
 use Rattle.baseline.specs.declared.choosing.Chosen.{Chosen}
 use Rattle.heads.specs.Heads.{testDay, contentTests, contentRefusal}
-use Rattle.points.specs.Points.{consumer, generator, unknown, kindOf, isUnknown, lacksDays, daysOf, lossOf, Quotient, consumerQuotient, quotients, rounded}
+use Rattle.points.specs.Points.{consumer, generator, unknown, kindOf, isUnknown}
+use Rattle.results.specs.SlotResults.{lacksDays, daysOf, lossOf, Quotient, consumerQuotient, quotients, rounded}
 use Rattle.results.specs.Steps.{consumerSlot, foundOf}
 use Rattle.heads.specs.declared.Head.{Head}
 use Rattle.results.proofs.SlotResults.{map-run}

@@ -1,3 +1,4 @@
 pub mod SlotResults
 pub mod ConsumerDays
 pub mod Bounds
+pub mod SlotExamples

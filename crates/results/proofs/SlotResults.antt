@@ -11,7 +11,8 @@ use Rattle.numbers.specs.Lists.{run}
 use Rattle.integers.specs.Integers.{floorDiv}
 use Rattle.numbers.specs.Words.{word32}
 use Rattle.integers.proofs.Differences.{⊖s}
-use Rattle.points.specs.Points.{generator, baselineOf, generatorQuotient, quotients, rounded, results}
+use Rattle.points.specs.Points.{generator, baselineOf}
+use Rattle.results.specs.SlotResults.{generatorQuotient, quotients, rounded, results}
 use Rattle.heads.specs.declared.Head.{Head}
 
 -- multiplied first and subtracted then, or the other way round

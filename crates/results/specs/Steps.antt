@@ -6,7 +6,8 @@ use lib.IntN.{ℤ, pos}
 use lib.ListN.{replicate}
 use Rattle.readings.specs.Readings.{reading, daySums, earlierUse}
 use Rattle.baseline.specs.Baseline.{baseline}
-use Rattle.points.specs.Points.{Kind, lacksDays, consumerQuotient, rounded, results}
+use Rattle.points.specs.Points.{Kind}
+use Rattle.results.specs.SlotResults.{lacksDays, consumerQuotient, rounded, results}
 use Rattle.heads.specs.declared.Head.{Head}
 use Rattle.results.specs.declared.Found.{Found}
 

@@ -1,3 +1,4 @@
 pub mod Cutting
-pub mod RoundTrips
 pub mod Figures
+pub mod RoundTrips
+pub mod WritingCalls

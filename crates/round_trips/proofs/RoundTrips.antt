@@ -5,6 +5,7 @@ use mathlib.Core.List.{List, [], _∷_, _++_, append-assoc}
 use Prim.Native.Nat.{ℕ, zero, suc, _+_, _<_}
 use native.Mathlib.Nat.{zero-add}
 use native.Mathlib.Numerals.{add-one}
+use native.Mathlib.Decide.{ℕ-discrete}
 use native.Mathlib.Omega.{arith}
 use borrow.Author.Tests.{eqb-true, not-false, lt-leb, lt-ltb, le-ltb}
 use lib.Dec.{T, ltb}
@@ -12,10 +13,12 @@ use lib.ListN.{length}
 use mir.Facts.{and-yes, yes-and}
 use Rattle.numbers.specs.Lists.{gather}
 use Rattle.numbers.specs.PointNumbers.{below}
-use Rattle.numbers.proofs.Refusals.{testOf, untold, clear-zero}
+use Rattle.numbers.specs.Refusals.{firstOf}
+use Rattle.numbers.proofs.Refusals.{testOf, untold, clear-zero, told, passed}
 use Rattle.numbers.proofs.Tests.{no-false}
-use Rattle.heads.specs.Heads.{headOf}
-use Rattle.points.specs.Points.{Point, kindOf, numberOf, lacksDays}
+use Rattle.heads.specs.Heads.{headOf, openingTests, openingRefusal}
+use Rattle.points.specs.Points.{Point, kindOf, numberOf}
+use Rattle.results.specs.SlotResults.{lacksDays}
 use Rattle.ledger.specs.States.{opened, taken}
 use Rattle.ledger.specs.Operations.{pointTests, pointRefusal, addingTests, addingRefusal, resultsOf, addOf}
 use Rattle.heads.specs.declared.Head.{Head}
@@ -23,12 +26,15 @@ use Rattle.ledger.specs.declared.State.{State}
 use Rattle.heads.proofs.Opening.{opening-lengths}
 use Rattle.ledger.proofs.Sound.{open-refusal, open-good, add-refusal, add-good, Sound, opened-sound, adding-sound, taken-sound}
 use Rattle.fields.specs.Fields.{written}
-use Rattle.book.specs.Reading.{good, Points, before, readPoints, bookOf, readBook}
-use Rattle.fields.specs.Writing.{pointWritingTests, pointWritingRefusal}
-use Rattle.round_trips.specs.Demand2.{risesAfter, rises, roomFor, Each, Bytes, ReadsBack, WritesSame, writtenBook}
+use Rattle.book.specs.Reading.{good, Points, before, readPoints, Book, bookOf, readBook}
+use Rattle.book.specs.Settling.{settlingRefusal}
+use Rattle.fields.specs.Writing.{roomRow, headWritingRefusal, pointWritingTests, pointWritingRefusal}
+use Rattle.round_trips.specs.Demand2.{risesAfter, rises, headRoom, roomFor, Each, Bytes, ReadsBack, ReadInFull, WrittenGivesZero, ReadsWritable, WritesSame, writtenBook}
 use Rattle.fields.specs.declared.Due.the-variants as due
 use Rattle.round_trips.proofs.Cutting.{reads-field, was-written}
 use Rattle.book.proofs.Readings.{Points-read, none, more, book-read}
+use Rattle.book.proofs.Closings.{closes}
+use Rattle.round_trips.proofs.Figures.{gives-figures}
 
 -- ---- rising numbers, from a number of points and the last number on
 
@@ -66,16 +72,16 @@ follows-none (suc n) last = tt
 
 -- ---- points
 
-abbrev Takes : Point → Type 0
+abbrev pub Takes : Point → Type 0
 Takes p = pointWritingRefusal (p .tag) (p .value) (roomFor p) ≡ 0
 
 abbrev ShowsDays : Head → List ℕ → Point → Type 0
 ShowsDays head marks p = T (not (lacksDays head marks (kindOf (p .tag)) (p .value)))
 
-abbrev writtenPoints : List Point → List ℕ
+abbrev pub writtenPoints : List Point → List ℕ
 writtenPoints points = gather (λ p. written (p .tag) (p .value)) points
 
-writing-untold : (p : Point) → Takes p → (n : ℕ) → testOf n (pointWritingTests (p .tag) (p .value) (roomFor p)) ≡ false
+pub writing-untold : (p : Point) → Takes p → (n : ℕ) → testOf n (pointWritingTests (p .tag) (p .value) (roomFor p)) ≡ false
 unfolding pointWritingRefusal
 writing-untold p e = untold (pointWritingTests (p .tag) (p .value) (roomFor p)) tt e
 
@@ -109,9 +115,8 @@ points-back (p ∷ points) state s n f t d =
       ap (λ ps. p ∷ ps) (r .2),
     )
 
--- points that are read were written so, and writing takes them
-record Were (state : State) (n : ℕ) (left : List ℕ) (points : List Point) : Type 0 where
-  pub same : writtenPoints points ≡ left
+-- points that are read are those that writing takes
+record Were (state : State) (n : ℕ) (points : List Point) : Type 0 where
   pub count : length points ≡ n
   pub rising : T (follows (state .points) (state .last) points)
   pub takes : Each Takes points
@@ -129,25 +134,45 @@ takes-back state p e =
     clear-zero (pointWritingTests (p .tag) (p .value) (roomFor p))
     (c 11, (c 12, (c 14, (c 16, (c 17, (le-ltb (roomFor p) (3 + length (p .value)) (omega arith), tt))))))
 
-points-were : {n : ℕ} {state : State} {left : List ℕ} {x : Points} → Bytes left → Points-read n state left x → Were state n left (x .points)
-unfolding gather taken
-points-were {state} {left = []} b (none e) = record { same = refl; count = refl; rising = follows-none (state .points) (state .last); takes = tt; shows = tt }
-points-were {left = a ∷ left} b (none e) = absurd (omega arith)
-points-were {state} {left} b (more {part} {rest} cut e read) =
+points-were : {n : ℕ} {state : State} {left : List ℕ} {x : Points} → Points-read n state left x → Were state n (x .points)
+unfolding taken
+points-were {state} (none e) = record { count = refl; rising = follows-none (state .points) (state .last); takes = tt; shows = tt }
+points-were {state} (more {part} {rest} cut e read) =
     let p = part .point in
     let c = adding-untold state p e in
-    let w = was-written due.Point left part b cut in
     let is = ap (λ a. a .state) (add-good state (p .tag) (p .value) 6 (sym (add-refusal state (p .tag) (p .value) 6) ∙ e)) in
-    let i = rw is at (points-were (w .bytes) read) in
+    let i = rw is at (points-were read) in
     record {
-      same = ap (λ bytes. written (p .tag) (p .value) ++ bytes) (i .same) ∙ w .same;
       count = ap suc (i .count);
       rising = follows-more (state .points) (state .last) p (rest .points) (c 15) (i .rising);
       takes = (takes-back state p e, i .takes);
       shows = (rw (c 18) tt, i .shows);
     }
 
+-- and were written so
+points-same : {n : ℕ} {state : State} {left : List ℕ} {x : Points} → Bytes left → Points-read n state left x → writtenPoints (x .points) ≡ left
+unfolding gather
+points-same {left = []} b (none e) = refl
+points-same {left = a ∷ left} b (none e) = absurd (omega arith)
+points-same {left} b (more {part} cut e read) =
+    let p = part .point in
+    let w = was-written due.Point left part b cut in
+    ap (λ bytes. written (p .tag) (p .value) ++ bytes) (points-same (w .bytes) read) ∙ w .same
+
 -- ---- whole books
+
+-- what `write_head` asks of a head is what opening asks, and room
+pub head-opens : (h c : List ℕ) → headWritingRefusal h c headRoom ≡ 0 → openingRefusal h c ≡ 0
+unfolding headWritingRefusal openingRefusal
+head-opens h c e = go (ℕ-discrete (firstOf (openingTests h c)) 0)
+  where
+    go : Dec (firstOf (openingTests h c) ≡ 0) → firstOf (openingTests h c) ≡ 0
+    go (yes z) = z
+    go (no n) = absurd (n (sym (told (openingTests h c) (roomRow headRoom 53) n) ∙ e))
+
+head-takes : (h c : List ℕ) → openingRefusal h c ≡ 0 → headWritingRefusal h c headRoom ≡ 0
+unfolding headWritingRefusal openingRefusal
+head-takes h c e = passed (openingTests h c) (roomRow headRoom 53) tt e
 
 pub reads-back : ReadsBack
 unfolding readBook writtenBook
@@ -155,20 +180,31 @@ reads-back b w =
     let h = b .head in
     let c = b .calendar in
     let ps = writtenPoints (b .points) in
-    let lengths = opening-lengths h c (w .head) in
+    let opens = head-opens h c (w .head) in
+    let lengths = opening-lengths h c opens in
     let state = opened (headOf h) c in
-    let r = points-back (b .points) state (opened-sound h c (w .head)) (zero-add (length (b .points)) ∙ w .count) (w .rising) (w .taken) (w .showsDays) in
+    let r = points-back (b .points) state (opened-sound h c opens) (zero-add (length (b .points)) ∙ w .count) (w .rising) (w .taken) (w .showsDays) in
     let q : readPoints (headOf h .count) state ps ≡ good (r .0) = subst (λ (n : ℕ). readPoints n state ps ≡ good (r .0)) (w .count) (r .1) in (
       bookOf h c (r .0),
       rw (
         append-assoc (written 1 h) (written 2 c) ps,
         reads-field due.Head 1 h (written 2 c ++ ps) (lengths .0) refl,
         reads-field due.Calendar 2 c ps (lengths .1) refl,
-        open-good h c (w .head),
+        open-good h c opens,
         q,
       ),
       rw (r .2),
     )
+
+pub reads-writable : ReadsWritable
+reads-writable book r e =
+    let k = book-read book r e in
+    let h = k .head .point .value in
+    let c = k .calendar .point .value in
+    let o = sym (open-refusal h c) ∙ k .opens in
+    let is = ap (λ a. a .state) (open-good h c o) in
+    let w = points-were (rw is at (k .pointsRead)) in
+    rw (k .is) (record { head = head-takes h c o; count = w .count; rising = w .rising; taken = w .takes; showsDays = w .shows })
 
 pub writes-same : WritesSame
 unfolding writtenBook
@@ -178,13 +214,19 @@ writes-same book bytes r e =
     let c = k .calendar .point .value in
     let u = was-written due.Head book (k .head) bytes (k .headCut) in
     let v = was-written due.Calendar (k .head .left) (k .calendar) (u .bytes) (k .calendarCut) in
-    let o = sym (open-refusal h c) ∙ k .opens in
-    let is = ap (λ a. a .state) (open-good h c o) in
-    let w = points-were (v .bytes) (rw is at (k .pointsRead)) in
     let ps = writtenPoints (k .points .points) in
-    let first : k .head .point .tag ≡ 1 = eqb-true _ _ (u .tag) in
-    let second : k .calendar .point .tag ≡ 2 = eqb-true _ _ (v .tag) in
-    let behind : written 2 c ++ ps ≡ k .head .left = ap (λ (t : ℕ). written t c ++ ps) (sym second) ∙ ap (λ bytes. written (k .calendar .point .tag) c ++ bytes) (w .same) ∙ v .same in
-    let whole : written 1 h ++ (written 2 c ++ ps) ≡ book = ap (λ (t : ℕ). written t h ++ (written 2 c ++ ps)) (sym first) ∙ ap (λ bytes. written (k .head .point .tag) h ++ bytes) behind ∙ u .same in
-    rw (k .is)
-    (record { head = o; count = w .count; rising = w .rising; taken = w .takes; showsDays = w .shows }, append-assoc (written 1 h) (written 2 c) ps ∙ whole)
+    let first = ap (λ (t : ℕ). written t h ++ k .head .left) (sym (eqb-true _ 1 (u .tag))) ∙ u .same in
+    let second = ap (λ (t : ℕ). written t c ++ k .calendar .left) (sym (eqb-true _ 2 (v .tag))) ∙ v .same in
+    rw (k .is, append-assoc (written 1 h) (written 2 c) ps, points-same (v .bytes) (k .pointsRead), second) first
+
+-- ---- the number of Whole book
+
+gives-zero : (book : List ℕ) (r : Book) → readBook book ≡ good r → settlingRefusal book 64 ≡ 0
+unfolding settlingRefusal
+gives-zero book r e = rw e (closes book r e)
+
+pub read-in-full : ReadInFull
+read-in-full book = record { gives = gives-zero book; back = λ z. let f = gives-figures book z in (f .0, f .1) }
+
+pub written-gives-zero : WrittenGivesZero
+written-gives-zero b w = let r = reads-back b w in gives-zero (writtenBook b) (r .0) (r .1)

@@ -1,4 +1,5 @@
--- DEMAND 2, its second half: a book that we write reads back, and a book that is read in full would be written with the same bytes.
+-- DEMAND 2, its second half: a book that we write reads back and gives 0, and a book that is read in full would be written with the same
+-- bytes.
 use mathlib.Core.Path.{_≡_}
 use mathlib.Core.Bool.{Bool, true, not, _&&_}
 use mathlib.Core.List.{List, [], _∷_, _++_, map}
@@ -7,12 +8,13 @@ use lib.Dec.{T}
 use lib.ListN.{length, getD}
 use Rattle.numbers.specs.Lists.{gather}
 use Rattle.numbers.specs.PointNumbers.{below}
-use Rattle.heads.specs.Heads.{headOf, openingRefusal}
-use Rattle.points.specs.Points.{Point, kindOf, numberOf, lacksDays}
+use Rattle.heads.specs.Heads.{headOf}
+use Rattle.points.specs.Points.{Point, kindOf, numberOf}
+use Rattle.results.specs.SlotResults.{lacksDays}
 use Rattle.ledger.specs.Operations.{closeOf}
 use Rattle.book.specs.Reading.{good, Contents, Book, readBook}
 use Rattle.fields.specs.Fields.{written}
-use Rattle.fields.specs.Writing.{writtenHead, pointWritingRefusal}
+use Rattle.fields.specs.Writing.{writtenHead, headWritingRefusal, pointWritingRefusal}
 use Rattle.book.specs.Settling.{settlingRefusal}
 use Rattle.ledger.specs.Calls.{Call, adding, closing, accepted, closed, program}
 
@@ -29,7 +31,10 @@ rises (p ∷ points) = risesAfter (numberOf (p .value)) points
 unfoldable pub writtenBook : Contents → List ℕ
 writtenBook b = writtenHead (b .head) (b .calendar) ++ gather (λ p. written (p .tag) (p .value)) (b .points)
 
--- what a point's field takes
+-- what a head with its calendar takes, and what a point's field takes
+abbrev pub headRoom : ℕ
+headRoom = 53
+
 abbrev pub roomFor : Point → ℕ
 roomFor p = 3 + length (p .value)
 
@@ -37,9 +42,9 @@ abbrev pub Each : (Point → Type 0) → List Point → Type 0
 Each P [] = Unit {0}
 Each P (p ∷ points) = P p × Each P points
 
--- 'points as many as its head says, rising in number and each able to show its days', of a head and points that writing takes
+-- 'points as many as its head says, rising in number and each able to show its days', of a head and points that the writing calls take
 pub record Writable (b : Contents) : Type 0 where
-  pub head : openingRefusal (b .head) (b .calendar) ≡ 0
+  pub head : headWritingRefusal (b .head) (b .calendar) headRoom ≡ 0
   pub count : length (b .points) ≡ headOf (b .head) .count
   pub rising : T (rises (b .points))
   pub taken : Each (λ p. pointWritingRefusal (p .tag) (p .value) (roomFor p) ≡ 0) (b .points)
@@ -53,13 +58,29 @@ callsOf points = map (λ p. adding (p .tag) (p .value) 6) points ++ closing ∷ 
 abbrev pub ReadsBack : Type 0
 ReadsBack = (b : Contents) → Writable b → (r : Book) × (readBook (writtenBook b) ≡ good r) × (r .contents ≡ b)
 
+-- A book is read in full exactly when Whole book answers 0.
+pub record InFull (book : List ℕ) : Type 0 where
+  pub gives : (r : Book) → readBook book ≡ good r → settlingRefusal book 64 ≡ 0
+  pub back : settlingRefusal book 64 ≡ 0 → (r : Book) × (readBook book ≡ good r)
+
+abbrev pub ReadInFull : Type 0
+ReadInFull = (book : List ℕ) → InFull book
+
+-- 'A book that we write gives 0.'
+abbrev pub WrittenGivesZero : Type 0
+WrittenGivesZero = (b : Contents) → Writable b → settlingRefusal (writtenBook b) 64 ≡ 0
+
+-- What a book that is read in full reads back to is what the writing calls take, whatever its bytes.
+abbrev pub ReadsWritable : Type 0
+ReadsWritable = (book : List ℕ) (r : Book) → readBook book ≡ good r → Writable (r .contents)
+
 -- what a slice of bytes holds
 abbrev pub Bytes : List ℕ → Type 0
 Bytes bytes = (i : ℕ) → getD bytes i 0 < 256
 
 -- 'A book that is read in full would be written with the same bytes.'
 abbrev pub WritesSame : Type 0
-WritesSame = (book : List ℕ) → Bytes book → (r : Book) → readBook book ≡ good r → Writable (r .contents) × (writtenBook (r .contents) ≡ book)
+WritesSame = (book : List ℕ) → Bytes book → (r : Book) → readBook book ≡ good r → writtenBook (r .contents) ≡ book
 
 -- A book that gives 0 is one that is read in full, and its figures are those of the calls on the values handed on.
 abbrev pub GivesFigures : Type 0

@@ -11,7 +11,7 @@ use Rattle.calendar.specs.Dates.{isDate, dayCount}
 use Rattle.readings.specs.Readings.{firstLarge, windowSums, slotSums, daySums, earlierUse}
 use Rattle.baseline.specs.Choosing.{walk, lowest, used, chosen}
 use Rattle.heads.specs.Heads.{headOf, contentRefusal, openingRefusal}
-use Rattle.points.specs.Points.{quotients}
+use Rattle.results.specs.SlotResults.{quotients}
 use Rattle.ledger.specs.States.{isUnsound}
 use Rattle.figures.specs.Figures.{figuresOf}
 use Rattle.ledger.specs.Operations.{openOf, addingRefusal, addOf, placesOf}

@@ -12,7 +12,8 @@ use Rattle.numbers.specs.PointNumbers.{digits, same, isNumber, below}
 use Rattle.calendar.specs.Dates.{isDate, dayCount}
 use Rattle.readings.specs.Readings.{firstLarge}
 use Rattle.heads.specs.Heads.{headOf, contentRefusal, openingRefusal}
-use Rattle.points.specs.Points.{Point, quotients}
+use Rattle.points.specs.Points.{Point}
+use Rattle.results.specs.SlotResults.{quotients}
 use Rattle.figures.specs.SlotTotals.{plus}
 use Rattle.ledger.specs.States.{isUnsound, taken}
 use Rattle.figures.specs.Figures.{figuresOf}

@@ -13,7 +13,7 @@ use Rattle.numbers.proofs.Filling.{front, fill-more, fill-all}
 use Rattle.readings.specs.Readings.{reading}
 use Rattle.baseline.specs.Baseline.{baseline}
 use Rattle.readings.proofs.Bounds.{reading-bound, earlier-use-bound, day-sums-bound}
-use Rattle.points.specs.Points.{consumerQuotient, rounded}
+use Rattle.results.specs.SlotResults.{consumerQuotient, rounded}
 use Rattle.results.proofs.consumer_results.Statement.{statement}
 use Rattle.results.proofs.consumer_results.Tie as tie
 

@@ -1,7 +1,7 @@
 -- The slot result of a consumer at the numbers of document 01's examples: high voltage, loss 400, a baseline of 24 × 1,200. Assumes nothing.
 use mathlib.Core.Path.{_≡_, refl}
 use lib.IntN.{pos, negsuc}
-use Rattle.points.specs.Points.{consumerQuotient, rounded}
+use Rattle.results.specs.SlotResults.{consumerQuotient, rounded}
 
 -- use 240 (H), 241 (I), 1,200 and 1,201 (J)
 pub slot-examples : (rounded (consumerQuotient 400 28_800 240) ≡ pos 1_000)

@@ -1,0 +1,62 @@
+-- Slot results (document 01): of a point's value six quotients, and each of them rounded. A further kind of point is a line in each
+-- definition by kind.
+use mathlib.Core.Bool.{Bool, false}
+use mathlib.Core.List.{List, [], map}
+use Prim.Native.Nat.{ℕ, _+_, _*_, _-_}
+use lib.Dec.{ltb}
+use lib.IntN.{ℤ, pos, _-ℤ_, _*ℤ_}
+use lib.ListN.{length, getD}
+use Rattle.numbers.specs.Lists.{run}
+use Rattle.numbers.specs.Words.{word32}
+use Rattle.integers.specs.Integers.{floorDiv}
+use Rattle.readings.specs.Readings.{reading, daySums, earlierUse}
+use Rattle.baseline.specs.Baseline.{chosenDays, baseline}
+use Rattle.heads.specs.Heads.{testDay}
+use Rattle.heads.specs.declared.Head.{Head}
+use Rattle.points.specs.Points.{Kind, consumer, generator, unknown, classOf, baselineOf, readingsOf}
+
+-- the four days of a consumer's value
+abbrev pub daysOf : Head → List ℕ → List ℕ → List ℕ
+daysOf h marks value = chosenDays (testDay h) marks (readingsOf consumer value) (h .slot)
+
+-- 18: 'fewer than four days'
+abbrev pub lacksDays : Head → List ℕ → Kind → List ℕ → Bool
+lacksDays h marks consumer value = ltb (length (daysOf h marks value)) 4
+lacksDays h marks generator value = false
+lacksDays h marks unknown value = false
+
+-- A slot result before it is rounded: num ÷ den, in Wh.
+pub record Quotient : Type 0 where
+  pub num : ℤ
+  pub den : ℕ
+
+-- '(baseline − 24 × use in slot j) × 10,000 ÷ (24 × (10,000 − loss))'
+abbrev pub consumerQuotient : ℕ → ℕ → ℕ → Quotient
+consumerQuotient loss base used = record { num = (pos base -ℤ pos (24 * used)) *ℤ pos 10_000; den = 24 * (10_000 - loss) }
+
+-- 'reading − 500 × its baseline in kW': no division
+abbrev pub generatorQuotient : ℕ → ℕ → Quotient
+generatorQuotient kW metered = record { num = pos metered -ℤ pos (500 * kW); den = 1 }
+
+-- 'Loss is that of the consumer's voltage class'
+abbrev pub lossOf : Head → List ℕ → ℕ
+lossOf h value = getD (h .losses) (classOf value - 1) 0
+
+-- the six slot results of a point before they are rounded
+unfoldable pub quotients : Head → List ℕ → Kind → List ℕ → List Quotient
+quotients h marks consumer value =
+    let readings = readingsOf consumer value in
+    let sums = daySums readings (daysOf h marks value) (h .slot) in
+    let earlier = earlierUse readings (h .slot) in
+    run (λ j. consumerQuotient (lossOf h value) (baseline sums earlier j) (reading readings 0 (h .slot + j))) 0 6
+quotients h marks generator value =
+    run (λ j. generatorQuotient (baselineOf value) (word32 (readingsOf generator value) (j * 4))) 0 6
+quotients h marks unknown value = []
+
+-- 'rounded toward minus infinity'
+abbrev pub rounded : Quotient → ℤ
+rounded q = floorDiv (q .num) (q .den)
+
+-- the six slot results
+abbrev pub results : Head → List ℕ → Kind → List ℕ → List ℤ
+results h marks kind value = map rounded (quotients h marks kind value)
