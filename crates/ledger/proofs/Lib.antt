@@ -1,8 +1,4 @@
-<<<<<<< HEAD
 pub mod Moving
-pub mod EarlyRows
-=======
->>>>>>> main
 pub mod Taking
 pub mod Sound
 pub mod Totals
