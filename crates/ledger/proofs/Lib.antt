@@ -1,4 +1,3 @@
-pub mod EarlyRows
 pub mod Taking
 pub mod Sound
 pub mod TotalBounds

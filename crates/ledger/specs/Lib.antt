@@ -1,4 +1,3 @@
 pub mod States
 pub mod Operations
-pub mod Steps
 pub mod Calls
