@@ -8,7 +8,7 @@ use native.Mathlib.Omega.{arith}
 use borrow.Author.Tests.{eq-eqb, ne-eqb}
 use lib.ListN.{length, drop}
 use lib.Seq.{take-at, drop-at}
-use Rattle.fields.specs.Headers.{headerRefusal}
+use Rattle.fields.specs.Fields.{headerRefusal}
 use Rattle.fields.proofs.Headers.{header-shows}
 use Rattle.feeding.specs.Feeding.{dueOf, isOver, startOf, headerFed, endFed, fedAt, feedOf, fed, mostFeedings, FewerEnd}
 use Rattle.feeding.specs.Coming.{Coming, FedWhole}

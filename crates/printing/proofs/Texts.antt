@@ -29,6 +29,9 @@ text-closes : (book : List ℕ) → bookText book ≡ textBy (bookEnding (readBo
 unfolding textOf
 text-closes book = ap (textBy (bookEnding (readBook book) .state)) (ending-closes book)
 
+text-told : (book : List ℕ) → (closingOf (readBook book) .refusal ≡ 0 → ⊥) → bookText book ≡ refusedText (closingOf (readBook book) .refusal)
+text-told book n = text-closes book ∙ simp (ne-eqb _ _ n)
+
 module _ (book result : List ℕ) (room : length result ≡ resultLength) where
   number-is : settlingRefusal book (length result) ≡ closingOf (readBook book) .refusal
   unfolding settlingRefusal
@@ -53,6 +56,6 @@ pub text-tells : TextTells
 text-tells book result room =
     let number = number-is book result room in
     record {
-      refused = λ n. text-closes book ∙ rw number (simp (ne-eqb _ 0 (rw number at n)));
+      refused = λ n. text-told book (rw number at n) ∙ ap refusedText (sym number);
       settled = λ z. was-settled book result room (sym number ∙ z) (readBook book) refl (book-told book);
     }

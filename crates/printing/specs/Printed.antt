@@ -8,6 +8,7 @@ use lib.Dec.{eqb}
 use lib.IntN.{ℤ}
 use lib.ListN.{length}
 use Rattle.heads.specs.declared.Head.{Head}
+use Rattle.ledger.specs.States.{slotTotals}
 use Rattle.ledger.specs.declared.State.{State}
 use Rattle.ledger.specs.declared.Closed.{Closed}
 use Rattle.figures.specs.declared.Figures.{Figures}
@@ -55,7 +56,7 @@ capacityLines figures =
 
 abbrev pub settledText : State → Figures → List ℕ
 settledText state figures =
-    dateLine (state .head) ++ (line "points " (decimal (figures .points)) ++ (slotLines 1 (state .totals) ++ (settledLines figures ++ capacityLines figures)))
+    dateLine (state .head) ++ (line "points " (decimal (figures .points)) ++ (slotLines 1 (slotTotals state) ++ (settledLines figures ++ capacityLines figures)))
 
 abbrev pub refusedText : ℕ → List ℕ
 refusedText refusal = line "refused " (decimal refusal)
