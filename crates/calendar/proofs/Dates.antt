@@ -14,7 +14,7 @@ use types.Run.{OneOf, hit}
 use borrow.Author.Tests.{leb-true, eqb-true, ne-eqb}
 use Rattle.numbers.specs.Lists.{sum}
 use Rattle.calendar.specs.Dates.{isLeap, monthDays, daysIn, commonDaysBefore, isDate, dayCount}
-use Rattle.numbers.proofs.Tables.{every-at}
+use Rattle.numbers.proofs.Tables.{entry-at}
 
 -- ---- months
 
@@ -22,14 +22,14 @@ module _ (month : ℕ) (h : 1 ≤ month) (l : month ≤ 12) where
   -- a common year's days up to the end of a month
   pub month-end : commonDaysBefore month + getD monthDays (month - 1) 0 ≤ 365
   unfolding sum
-  month-end = leb→le _ _ (every-at (λ k days. leb (sum (take k monthDays) + days) 365) monthDays tt (month - 1) (omega arith))
+  month-end = leb→le _ _ (entry-at (λ k days. leb (sum (take k monthDays) + days) 365) monthDays tt (month - 1) (omega arith))
 
   -- any other than February and those of thirty days
   pub thirty-one : (year : ℕ) → (month ≡ 2 → ⊥) → (OneOf (4 ∷ 6 ∷ 9 ∷ 11 ∷ []) month → ⊥) → daysIn year month ≡ 31
   thirty-one year february thirty =
       let days = getD monthDays (month - 1) 0 in
       let shorter : List ℕ = 2 ∷ 4 ∷ 6 ∷ 9 ∷ 11 ∷ [] in
-      let t = every-at (λ k days. eqb days 31 || hasKey shorter (k + 1)) monthDays tt (month - 1) (omega arith) in
+      let t = entry-at (λ k days. eqb days 31 || hasKey shorter (k + 1)) monthDays tt (month - 1) (omega arith) in
       ⊎-elim (λ e. simp (eqb→eq days 31 e, ne-eqb month 2 february, and-false))
       (λ k. absurd (⊎-elim february thirty (hit shorter month (rw (sub-add-cancel h) at k))))
       (or-yes (eqb days 31) (hasKey shorter (month - 1 + 1)) t)

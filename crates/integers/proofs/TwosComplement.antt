@@ -49,7 +49,8 @@ module _ (bytes : List ℕ) (at : ℕ) where
   signed-word-back z h e = ap signedOf (word64-back bytes at (twosComplement z) (complement-small z h) e) ∙ signed-back z h
 
   pub signed-word-bytes : Bytes bytes → at + 8 ≤ length bytes → bytesOf 8 (twosComplement (signedWord bytes at)) ≡ take 8 (drop at bytes)
-  signed-word-bytes b h = ap (bytesOf 8) (complement-back (word64 bytes at) (word64-small bytes at b)) ∙ word64-bytes bytes at b h
+  signed-word-bytes b h =
+      ap (bytesOf 8) (complement-back (word64 bytes at) (word64-small bytes at b h)) ∙ word64-bytes bytes at b h
 
 -- ---- as the machine works a negative one out
 

@@ -102,23 +102,14 @@ module _ (bytes : List ℕ) (at : ℕ) where
       let l : length (take 8 (drop at bytes)) ≡ 8 = ap length e ∙ bytes-length 8 x in
       word64-is bytes at (omega (arith, simp (length-take, length-drop) at l)) ∙ ap number e ∙ number-of-bytes 8 x ∙ mod-eq-of-lt h
 
-  pub word64-small : Bytes bytes → word64 bytes at < 256 ^ 8
-  word64-small b =
-      omega (
-        arith,
-        b at,
-        b (at + 1),
-        b (at + 2),
-        b (at + 2 + 1),
-        b (at + 4),
-        b (at + 4 + 1),
-        b (at + 4 + 2),
-        b (at + 4 + 2 + 1),
-      )
-
   -- and what is read would be written with the same bytes
-  pub word64-bytes : Bytes bytes → at + 8 ≤ length bytes → bytesOf 8 (word64 bytes at) ≡ take 8 (drop at bytes)
-  word64-bytes b h =
-      let part = take 8 (drop at bytes) in
-      let l : length part ≡ 8 = length-take-le 8 (drop at bytes) (omega (arith, length-drop at bytes)) in
-      ap (bytesOf 8) (word64-is bytes at h) ∙ rw l at (bytes-of-number part (part-bytes bytes 8 at b))
+  module _ (b : Bytes bytes) (h : at + 8 ≤ length bytes) where
+    eight : length (take 8 (drop at bytes)) ≡ 8
+    eight = length-take-le 8 (drop at bytes) (omega (arith, length-drop at bytes))
+
+    pub word64-small : word64 bytes at < 256 ^ 8
+    word64-small = rw (word64-is bytes at h) (rw eight at (number-small (take 8 (drop at bytes)) (part-bytes bytes 8 at b)))
+
+    pub word64-bytes : bytesOf 8 (word64 bytes at) ≡ take 8 (drop at bytes)
+    word64-bytes =
+        ap (bytesOf 8) (word64-is bytes at h) ∙ rw eight at (bytes-of-number (take 8 (drop at bytes)) (part-bytes bytes 8 at b))

@@ -22,30 +22,6 @@ abbrev μ-loop : tie.MeasureT-loop
 loop-holds : tie.Need-loop-holds Inv-loop μ-loop
 loop-holds c = (search needs, search needs, refl)
 
-add-is-eligible : tie.Need-add-is-eligible Inv-loop μ-loop
-add-is-eligible c = search needs
-
-cast-is-eligible : tie.Need-cast-is-eligible Inv-loop μ-loop
-cast-is-eligible c = search needs
-
-sub-is-eligible : tie.Need-sub-is-eligible Inv-loop μ-loop
-sub-is-eligible c = search needs
-
-array-read-is-eligible : tie.Need-array-read-is-eligible Inv-loop μ-loop
-array-read-is-eligible c = search needs
-
-is-eligible-requires : tie.Need-is-eligible-requires Inv-loop μ-loop
-is-eligible-requires c κs = search needs
-
-array-write-days : tie.Need-array-write-days Inv-loop μ-loop
-array-write-days c = search needs
-
-add-k : tie.Need-add-k Inv-loop μ-loop
-add-k c = search needs
-
-loop-less : tie.Need-loop-less Inv-loop μ-loop
-loop-less c = search needs
-
 loop-again : tie.Need-loop-again Inv-loop μ-loop
 loop-again c =
     let a = c .before .before .before .args in
@@ -70,13 +46,13 @@ eligible-days-spec =
     Inv-loop
     μ-loop
     loop-holds
-    add-is-eligible
-    cast-is-eligible
-    sub-is-eligible
-    array-read-is-eligible
-    is-eligible-requires
-    array-write-days
-    add-k
-    loop-less
+    (λ c. search needs)
+    (λ c. search needs)
+    (λ c. search needs)
+    (λ c. search needs)
+    (λ c κs. search needs)
+    (λ c. search needs)
+    (λ c. search needs)
+    (λ c. search needs)
     loop-again
     returns)

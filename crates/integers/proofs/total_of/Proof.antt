@@ -23,22 +23,10 @@ abbrev μ-loop : tie.MeasureT-loop
 loop-holds : tie.Need-loop-holds Inv-loop μ-loop
 loop-holds c = (search needs, search needs, search needs, sym (+ℤ-idl _))
 
-mul-add-bounded : tie.Need-mul-add-bounded Inv-loop μ-loop
-mul-add-bounded c = search needs
-
-array-copy-out-add-bounded : tie.Need-array-copy-out-add-bounded Inv-loop μ-loop
-array-copy-out-add-bounded c = search needs
-
 add-bounded-requires : tie.Need-add-bounded-requires Inv-loop μ-loop
 add-bounded-requires c κs =
     let l = c .before .before in
     rw (told w64 (c .add-bounded-arg .given) refl) (omega (arith, l .before .pre (l .loop .i)))
-
-add-i : tie.Need-add-i Inv-loop μ-loop
-add-i c = search needs
-
-loop-less : tie.Need-loop-less Inv-loop μ-loop
-loop-less c = search needs
 
 loop-again : tie.Need-loop-again Inv-loop μ-loop
 loop-again c =
@@ -62,10 +50,10 @@ total-of-spec =
     Inv-loop
     μ-loop
     loop-holds
-    mul-add-bounded
-    array-copy-out-add-bounded
+    (λ c. search needs)
+    (λ c. search needs)
     add-bounded-requires
-    add-i
-    loop-less
+    (λ c. search needs)
+    (λ c. search needs)
     loop-again
     returns)

@@ -7,23 +7,11 @@ use Rattle.numbers.proofs.Places.{named}
 use Rattle.lines.proofs.put_number.Statement.{statement}
 use Rattle.lines.proofs.put_number.Tie as tie
 
-decimal-requires : tie.Need-decimal-requires
-decimal-requires c κs = search needs
-
-array-share-prefix-digits : tie.Need-array-share-prefix-digits
-array-share-prefix-digits c = search needs
-
-slice-aggregate-put : tie.Need-slice-aggregate-put
-slice-aggregate-put c = search needs
-
 put-requires : tie.Need-put-requires
 put-requires c κs =
     let d = c .before .before .decimal in
     let k = few 19 (d .result) _ (d .ensures .1 .0) (omega arith) in
     omega (arith, k, d .ensures .0 .1)
-
-same-length : tie.Need-same-length
-same-length c = search needs
 
 returns : tie.Need-returns
 returns c =
@@ -36,9 +24,9 @@ pub put-number-spec : {M : Type 1} → statement M
 put-number-spec =
     tie.close
     (tie.spec
-    decimal-requires
-    array-share-prefix-digits
-    slice-aggregate-put
+    (λ c κs. search needs)
+    (λ c. search needs)
+    (λ c. search needs)
     put-requires
-    same-length
+    (λ c. search needs)
     returns)

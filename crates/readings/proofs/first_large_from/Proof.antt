@@ -18,22 +18,10 @@ abbrev μ-loop : tie.MeasureT-loop
 loop-holds : tie.Need-loop-holds Inv-loop μ-loop
 loop-holds c = (search needs, search needs, refl)
 
-mul-word32-at : tie.Need-mul-word32-at Inv-loop μ-loop
-mul-word32-at c = omega arith
-
-word32-at-requires : tie.Need-word32-at-requires Inv-loop μ-loop
-word32-at-requires c κs = omega arith
-
 returns : tie.Need-returns Inv-loop μ-loop
 returns c =
     let l = c .before .before .before .loop in
     sym (l .inv .2 ∙ left-stop _ (l .i) _ (omega arith) (rw (c .before .word32-at .ensures) at (c .if1 .taken)))
-
-add-i : tie.Need-add-i Inv-loop μ-loop
-add-i c = omega arith
-
-loop-less : tie.Need-loop-less Inv-loop μ-loop
-loop-less c = omega arith
 
 loop-again : tie.Need-loop-again Inv-loop μ-loop
 loop-again c =
@@ -55,10 +43,10 @@ first-large-from-spec =
     Inv-loop
     μ-loop
     loop-holds
-    mul-word32-at
-    word32-at-requires
+    (λ c. omega arith)
+    (λ c κs. omega arith)
     returns
-    add-i
-    loop-less
+    (λ c. omega arith)
+    (λ c. omega arith)
     loop-again
     returns-2)

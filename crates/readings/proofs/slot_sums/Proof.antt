@@ -25,23 +25,8 @@ abbrev μ-loop : tie.MeasureT-loop
 loop-holds : tie.Need-loop-holds Inv-loop μ-loop
 loop-holds c = (search needs, search needs, refl)
 
-add-slot-sum : tie.Need-add-slot-sum Inv-loop μ-loop
-add-slot-sum c = search needs
-
 slot-sum-requires : tie.Need-slot-sum-requires Inv-loop μ-loop
 slot-sum-requires c κs = let s = c .before .before .before in (s .pre .0, omega arith, s .pre .2)
-
-mul-sums : tie.Need-mul-sums Inv-loop μ-loop
-mul-sums c = search needs
-
-array-write-sums : tie.Need-array-write-sums Inv-loop μ-loop
-array-write-sums c = search needs
-
-add-j : tie.Need-add-j Inv-loop μ-loop
-add-j c = search needs
-
-loop-less : tie.Need-loop-less Inv-loop μ-loop
-loop-less c = search needs
 
 loop-again : tie.Need-loop-again Inv-loop μ-loop
 loop-again c =
@@ -64,11 +49,11 @@ slot-sums-spec =
     Inv-loop
     μ-loop
     loop-holds
-    add-slot-sum
+    (λ c. search needs)
     slot-sum-requires
-    mul-sums
-    array-write-sums
-    add-j
-    loop-less
+    (λ c. search needs)
+    (λ c. search needs)
+    (λ c. search needs)
+    (λ c. search needs)
     loop-again
     returns)
