@@ -25,6 +25,10 @@ unfoldable pub sumℤ : List ℤ → ℤ
 sumℤ [] = pos 0
 sumℤ (z ∷ zs) = z +ℤ sumℤ zs
 
+-- the size of each of six numbers whose sum fits a word of eight bytes
+abbrev pub mostSummand : ℕ
+mostSummand = 1_000_000_000_000_000
+
 -- the highest word of eight bytes
 abbrev pub mostWord : ℕ
 mostWord = 256 ^ 8 - 1

@@ -5,7 +5,8 @@ ghost use lib.IntN.{pos, natAbs, _+ℤ_, _-ℤ_};
 ghost use lib.Signed.{mag};
 ghost use lib.ListN.{length, getD};
 ghost use Rattle.numbers.specs.Words.{bytesOf};
-ghost use Rattle.integers.specs.Integers.{floorDiv, orZero, sumℤ, twosComplement, signedOf, signedWord};
+ghost use Rattle.integers.specs.Integers.{floorDiv, orZero, sumℤ, mostSummand, twosComplement, signedOf, signedWord};
+use numbers::WINDOW_SLOTS;
 
 // The highest word of eight bytes.
 const MOST_WORD: u64 = 18_446_744_073_709_551_615;
@@ -69,13 +70,13 @@ pub fn minus(a: u64, b: u64) -> i64
 }
 
 // The six slot totals together.
-pub fn total_of(totals: [i64; 6]) -> i64
-    requires { ⌜ ((i : ℕ) → natAbs (getD totals i (pos 0)) ≤ 1_000_000_000_000_000) ⌝ }
+pub fn total_of(totals: [i64; WINDOW_SLOTS]) -> i64
+    requires { ⌜ ((i : ℕ) → natAbs (getD totals i (pos 0)) ≤ mostSummand) ⌝ }
     ensures { λ r. ⌜ r ≡ sumℤ totals ⌝ }
 {
     let mut total: i64 = 0;
     let mut i: usize = 0;
-    while i < 6 {
+    while i < WINDOW_SLOTS {
         total = add_bounded(total, totals[i]);
         i += 1;
     }

@@ -11,7 +11,7 @@ sub-years : tie.Need-sub-years
 sub-years c = let p = parts _ _ _ (c .pre) in omega arith
 
 days-before-requires : tie.Need-days-before-requires
-days-before-requires c κs = let p = parts _ _ _ (c .pre) in (p .first-month, p .last-month)
+days-before-requires c κs = parts _ _ _ (c .pre) .is-month
 
 add-result-3 : tie.Need-add-result-3
 unfolding dayCount

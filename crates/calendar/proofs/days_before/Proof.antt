@@ -10,8 +10,8 @@ use Rattle.calendar.proofs.days_before.Tie as tie
 
 add-result : tie.Need-add-result
 add-result c =
-    let m = c .before .before .before .before .args .month in
-    omega (arith, month-end m (omega arith) (omega arith))
+    let s = c .before .before .before .before in
+    omega (arith, month-end (s .args .month) (s .pre))
 
 returns : tie.Need-returns
 returns c =

@@ -3,7 +3,7 @@ use mathlib.Core.Path.{sym, _∙_}
 use native.Mathlib.Omega.{arith}
 use borrow.Author.Needs.{needs}
 use borrow.Author.Tests.{le-leb, lt-leb}
-use Rattle.calendar.specs.Dates.{isDate}
+use Rattle.calendar.specs.Dates.{firstYear, lastYear, isDate}
 use Rattle.calendar.proofs.Dates.{not-date}
 use Rattle.calendar.proofs.is_date.Statement.{statement}
 use Rattle.calendar.proofs.is_date.Tie as tie
@@ -15,8 +15,8 @@ returns c =
     let year = a .year in
     let month = a .month in
     simp (
-      le-leb 2020 year (omega arith),
-      le-leb year 2099 (omega arith),
+      le-leb firstYear year (omega arith),
+      le-leb year lastYear (omega arith),
       le-leb 1 month (omega arith),
       le-leb month 12 (omega arith),
       le-leb 1 (a .day) (omega arith),

@@ -7,7 +7,8 @@ use lib.ListN.{length, getD, drop}
 use mir.Syntax.{w64}
 use mir.Val.{toZ}
 use borrow.Author.Needs.{needs}
-use Rattle.integers.specs.Integers.{sumℤ}
+use Rattle.numbers.specs.Slots.{windowSlots}
+use Rattle.integers.specs.Integers.{sumℤ, mostSummand}
 use Rattle.integers.proofs.Machine.{back, told, sum-abs}
 use Rattle.integers.proofs.Sums.{sumℤ-next, sumℤ-end}
 use Rattle.integers.proofs.total_of.Statement.{statement}
@@ -15,10 +16,10 @@ use Rattle.integers.proofs.total_of.Tie as tie
 
 abbrev Inv-loop : tie.InvT-loop
 Inv-loop totals total₀ i₀ total i =
-    (i ≤ 6) × (length totals ≡ 6) × (natAbs (toZ w64 total) ≤ i * 1_000_000_000_000_000) × (sumℤ totals ≡ toZ w64 total +ℤ sumℤ (drop i totals))
+    (i ≤ windowSlots) × (length totals ≡ windowSlots) × (natAbs (toZ w64 total) ≤ i * mostSummand) × (sumℤ totals ≡ toZ w64 total +ℤ sumℤ (drop i totals))
 
 abbrev μ-loop : tie.MeasureT-loop
-μ-loop totals total₀ i₀ total i = 6 - i
+μ-loop totals total₀ i₀ total i = windowSlots - i
 
 loop-holds : tie.Need-loop-holds Inv-loop μ-loop
 loop-holds c = (search needs, search needs, search needs, sym (+ℤ-idl _))

@@ -2,6 +2,7 @@
 use mathlib.Core.Path.{_∙_}
 use native.Mathlib.Omega.{arith}
 use borrow.Author.Needs.{needs}
+use Rattle.lines.specs.Numerals.{mostDigits}
 use Rattle.lines.proofs.Decimals.{few, spelled}
 use Rattle.numbers.proofs.Places.{named}
 use Rattle.lines.proofs.put_number.Statement.{statement}
@@ -18,7 +19,7 @@ returns c =
     let d = c .before .before .before .before .before .decimal in
     let k = few 19 (d .result) _ (d .ensures .1 .0) (omega arith) in
     let p = c .before .before .put .ensures in
-    (named (d .ensures .1 .1 ∙ spelled 20 (d .result) _ (d .ensures .1 .0) k) p, omega (arith, k, d .ensures .0 .1, p .ends))
+    (named (d .ensures .1 .1 ∙ spelled mostDigits (d .result) _ (d .ensures .1 .0) k) p, omega (arith, k, d .ensures .0 .1, p .ends))
 
 pub put-number-spec : {M : Type 1} → statement M
 put-number-spec =

@@ -6,7 +6,7 @@ use native.Mathlib.Nat.{zero-add, sub-zero}
 use native.Mathlib.Omega.{arith}
 use lib.ListN.{length}
 use borrow.Author.Needs.{needs}
-use Rattle.readings.specs.Readings.{firstLarge}
+use Rattle.readings.specs.Readings.{readingLength, firstLarge}
 use Rattle.readings.proofs.Large.{from, left-pass, left-none-in, left-found-in}
 use Rattle.readings.proofs.Packing.{small-of}
 use Rattle.readings.proofs.first_large.Statement.{statement}
@@ -14,7 +14,7 @@ use Rattle.readings.proofs.first_large.Tie as tie
 
 abbrev Inv-loop : tie.InvT-loop
 Inv-loop readings n i₀ i =
-    (i ≤ n) × (n * 4 ≤ length readings) × (firstLarge readings n ≡ i + from readings i (n - i))
+    (i ≤ n) × (n * readingLength ≤ length readings) × (firstLarge readings n ≡ i + from readings i (n - i))
 
 abbrev μ-loop : tie.MeasureT-loop
 μ-loop readings n i₀ i = n - i

@@ -4,13 +4,14 @@ use Prim.Native.Nat.{_≤_, _-_, _+_, _*_}
 use native.Mathlib.Omega.{arith}
 use lib.ListN.{length}
 use borrow.Author.Needs.{needs}
+use Rattle.readings.specs.Readings.{readingLength}
 use Rattle.readings.proofs.Large.{from, left-pass, left-stop, left-none, one-fits}
 use Rattle.readings.proofs.first_large_from.Statement.{statement}
 use Rattle.readings.proofs.first_large_from.Tie as tie
 
 abbrev Inv-loop : tie.InvT-loop
 Inv-loop readings start n i₀ i =
-    (i ≤ n) × (n * 4 ≤ length readings) × (start + from readings start (n - start) ≡ i + from readings i (n - i))
+    (i ≤ n) × (n * readingLength ≤ length readings) × (start + from readings start (n - start) ≡ i + from readings i (n - i))
 
 abbrev μ-loop : tie.MeasureT-loop
 μ-loop readings start n i₀ i = n - i

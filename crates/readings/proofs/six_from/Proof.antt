@@ -2,6 +2,7 @@
 use Prim.Native.Nat.{_*_}
 use borrow.Author.Needs.{needs}
 use Rattle.numbers.specs.Words.{word32}
+use Rattle.readings.specs.Readings.{readingLength}
 use Rattle.readings.proofs.Sums.{six}
 use Rattle.readings.proofs.six_from.Statement.{statement}
 use Rattle.readings.proofs.six_from.Tie as tie
@@ -17,7 +18,7 @@ returns c =
       c .before .before .before .word32-at4 .ensures,
       c .before .before .word32-at5 .ensures,
       c .before .word32-at6 .ensures,
-      six (λ i. word32 (a .readings .now) (i * 4)) (a .first),
+      six (λ i. word32 (a .readings .now) (i * readingLength)) (a .first),
     )
 
 pub six-from-spec : {M : Type 1} → statement M

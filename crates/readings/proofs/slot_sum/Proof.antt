@@ -4,13 +4,14 @@ use Prim.Native.Nat.{ℕ, _≤_, _<_}
 use native.Mathlib.Omega.{arith}
 use lib.ListN.{length, getD}
 use borrow.Author.Needs.{needs}
-use Rattle.readings.specs.Readings.{reading}
+use Rattle.numbers.specs.Slots.{slotsOfDay, daysBack}
+use Rattle.readings.specs.Readings.{readingsLength, reading}
 use Rattle.readings.proofs.Sums.{four}
 use Rattle.readings.proofs.slot_sum.Statement.{statement}
 use Rattle.readings.proofs.slot_sum.Tie as tie
 
 -- what the reading on the k-th day asks
-asks : (s : tie.Start) (k : ℕ) → (length (s .args .readings .now) ≡ 5952) × (getD (s .args .t2) k 0 ≤ 30) × (s .args .slot < 48)
+asks : (s : tie.Start) (k : ℕ) → (length (s .args .readings .now) ≡ readingsLength) × (getD (s .args .t2) k 0 ≤ daysBack) × (s .args .slot < slotsOfDay)
 asks s k = (s .pre .0, s .pre .2 k, s .pre .1)
 
 returns : tie.Need-returns
