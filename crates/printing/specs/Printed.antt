@@ -7,6 +7,7 @@ use Prim.Native.Nat.{ℕ, suc, _≤_}
 use lib.Dec.{eqb}
 use lib.IntN.{ℤ}
 use Rattle.heads.specs.declared.Head.{Head}
+use Rattle.ledger.specs.States.{slotTotals}
 use Rattle.ledger.specs.Operations.{closeOf}
 use Rattle.ledger.specs.declared.State.{State}
 use Rattle.figures.specs.declared.Figures.{Figures}
@@ -53,7 +54,7 @@ capacityLines figures =
 
 abbrev pub settledText : State → Figures → List ℕ
 settledText state figures =
-    dateLine (state .head) ++ (line "points " (decimal (figures .points)) ++ (slotLines 1 (state .totals) ++ (settledLines figures ++ capacityLines figures)))
+    dateLine (state .head) ++ (line "points " (decimal (figures .points)) ++ (slotLines 1 (slotTotals state) ++ (settledLines figures ++ capacityLines figures)))
 
 abbrev pub refusedText : ℕ → List ℕ
 refusedText refusal = line "refused " (decimal refusal)
