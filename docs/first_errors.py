@@ -33,7 +33,9 @@ FACTS = [
     (r".*: no occurrence of the path's .*|`simp`: no equation of the list .*", "the equation does not speak of what is due"),
     (r".*the two (types|sides|indices) .*|expected type .*|`borrow\..*|`omega` does not read .*", "the fact that is due and the one that is proved differ"),
 ]
-DIFFER = re.compile(r"differ only where one has `([^`|]+)` \(expected\)(?:, right after `[^`]*`,)? and the other has `([^`|]+)` \(found\)")
+DIFFER = re.compile(
+    r"differ (?:only )?where one has `([^`|]+)` \(expected\)(?:, right after `[^`]*`,?)? and the other has `([^`|]+)` \(found\)"
+    r"|the two types are `([^`|]+)` \(expected\) and `([^`|]+)` \(found\)")
 NO_FACT = "no fact: "
 
 
@@ -58,7 +60,7 @@ def function_at(folder, name, line, column):
 
 def difference(message):
     """The last place where what is expected and what is found are said to differ, if it is short; names without their module."""
-    pairs = [[re.sub(r"[^\s(]+\.(?=[^\s.])", "", side) for side in pair] for pair in DIFFER.findall(message)]
+    pairs = [[re.sub(r"[^\s(]+\.(?=[^\s.])", "", side) for side in found if side] for found in DIFFER.findall(message)]
     pairs = [pair for pair in pairs if max(map(len, pair)) <= 40]
     return "`{}` expected, `{}` found".format(*pairs[-1]) if pairs else None
 
