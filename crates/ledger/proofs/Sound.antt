@@ -31,7 +31,7 @@ use Rattle.heads.proofs.Opening.{opening-content, opens}
 use Rattle.results.proofs.Bounds.{isBeyond, none-beyond}
 use Rattle.ledger.proofs.Moving.{plus-small}
 use Rattle.ledger.proofs.Taking.{Given, takes, results-small}
-use Rattle.ledger.specs.Calls.{Call, adding, closing, Reply, refused, accepted, closed, replyOf, replies, program}
+use Rattle.ledger.specs.Calls.{Call, adding, closing, Reply, refused, accepted, closed, replyOf, replies, program, tellsNine, NeverNine}
 
 -- ---- the answers of the operations, by the refusal
 
@@ -188,11 +188,6 @@ nothing-closed = rw nothing-unsound
 
 -- ---- 9 never comes after an accepted opening
 
-abbrev pub tellsNine : Reply → Bool
-tellsNine (refused refusal) = eqb refusal 9
-tellsNine accepted = false
-tellsNine (closed figures) = false
-
 never-told : (n : ℕ) (table : List (Bool × ℕ)) → 0 < n → T (noneOf (λ row. eqb (row .1) n) table) → T (not (eqb (firstOf table) n))
 never-told n [] h t = no-eqb (λ (e : 0 ≡ n). omega arith)
 never-told n (row ∷ table) h t = go (row .0) (none-cons (λ row. eqb (row .1) n) row table .0 t) (never-told n table h)
@@ -231,7 +226,9 @@ replies-not-nine (closing ∷ calls) state s =
     none-cons tellsNine (replyOf (closeOf state .refusal) reply) (replies state calls) .1
     (reply-not-nine (closeOf state .refusal) reply tt (close-not-nine state s), replies-not-nine calls state s)
 
-pub never-nine : (head calendar : List ℕ) → openingRefusal head calendar ≡ 0 → (calls : List Call) → T (noneOf tellsNine (program head calendar calls))
+pub never-nine : NeverNine
 unfolding program
-never-nine head calendar e calls = rw (open-good head calendar e)
-    (none-cons tellsNine accepted (replies (opened (headOf head) calendar) calls) .1 (tt, replies-not-nine calls _ (opened-sound head calendar e)))
+never-nine head calendar e calls =
+    let z = sym (open-refusal head calendar) ∙ e in
+    rw (open-good head calendar z)
+    (none-cons tellsNine accepted (replies (opened (headOf head) calendar) calls) .1 (tt, replies-not-nine calls _ (opened-sound head calendar z)))
