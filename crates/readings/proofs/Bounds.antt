@@ -1,11 +1,11 @@
 -- How large sums are of readings none of which is too large. Assumes nothing.
 use mathlib.Core.Path.{_≡_}
-use mathlib.Core.List.{List, [], map}
-use Prim.Native.Nat.{ℕ, zero, suc, _+_, _*_, _-_, _<_, _≤_}
+use mathlib.Core.List.{List, map}
+use Prim.Native.Nat.{ℕ, _+_, _*_, _-_, _<_, _≤_}
 use native.Mathlib.Omega.{arith}
 use lib.ListN.{length, getD}
 use Rattle.numbers.specs.Lists.{sum}
-use Rattle.readings.specs.Readings.{mostReading, firstLarge, reading, windowSum, windowSums, slotSums, daySums, earlierUse, Back}
+use Rattle.readings.specs.Readings.{mostReading, firstLarge, reading, windowSum, windowSums, slotSums, earlierUse, Back}
 use Rattle.readings.proofs.Sums.{run-within, sum-within, days-within}
 use Rattle.readings.proofs.Large.{none-large}
 
@@ -30,13 +30,7 @@ module _ (readings : List ℕ) (fits : firstLarge readings 1488 ≡ 1488) where
     slot-sum-bound slot h =
         omega (arith, days-within (λ k. reading readings k slot) mostReading days (λ i l. reading-bound (getD days i 0) slot (back i) h))
 
-    slot-sums-bound : (i : ℕ) → i ≤ 42 → (k : ℕ) → getD (slotSums readings days i) k 0 ≤ 4_000_000_000
+    pub slot-sums-bound : (i : ℕ) → i ≤ 42 → (k : ℕ) → getD (slotSums readings days i) k 0 ≤ 4_000_000_000
     unfolding slotSums
     slot-sums-bound i h =
         run-within (λ slot. sum (map (λ k. reading readings k slot) days)) 4_000_000_000 i 6 (λ j l. slot-sum-bound (i + j) (omega arith))
-
-    pub day-sums-bound : (s : ℕ) → s ≤ 42 → (i k : ℕ) → getD (getD (daySums readings days s) i []) k 0 ≤ 4_000_000_000
-    unfolding daySums
-    day-sums-bound s h zero k = slot-sums-bound s h k
-    day-sums-bound s h (suc zero) k = slot-sums-bound (s - 10) (omega arith) k
-    day-sums-bound s h (suc (suc i)) k = omega arith

@@ -7,7 +7,7 @@ ghost use lib.Dec.{ltb};
 ghost use lib.ListN.{length, drop};
 ghost use Rattle.numbers.specs.Lists.{run, sum};
 ghost use Rattle.numbers.specs.Words.{word32};
-ghost use Rattle.readings.specs.Readings.{mostReading, firstLarge, reading, windowSum, windowSums, slotSums, daySums, earlierUse, Back};
+ghost use Rattle.readings.specs.Readings.{mostReading, firstLarge, reading, windowSum, windowSums, slotSums, earlierUse, Back};
 ghost use Rattle.readings.specs.Packed.{Passes};
 use numbers::word32_at;
 
@@ -193,7 +193,7 @@ fn slot_sum(readings: &[u8], days: [usize; 4], slot: usize) -> u64
 }
 
 // The six slots from one on, each over four days.
-fn slot_sums(readings: &[u8], days: [usize; 4], slot: usize) -> [u64; 6]
+pub fn slot_sums(readings: &[u8], days: [usize; 4], slot: usize) -> [u64; 6]
     requires { ⌜ (length (now readings) ≡ 5952) × (slot ≤ 42) × Back days ⌝ }
     ensures { λ r. ⌜ r ≡ slotSums (now (readings .entry)) days slot ⌝ }
 {
@@ -204,14 +204,4 @@ fn slot_sums(readings: &[u8], days: [usize; 4], slot: usize) -> [u64; 6]
         j += 1;
     }
     sums
-}
-
-// Six window sums and six earlier sums, each over four days.
-pub fn day_sums(readings: &[u8], days: [usize; 4], slot: usize) -> [[u64; 6]; 2]
-    requires { ⌜ (length (now readings) ≡ 5952) × (10 ≤ slot) × (slot ≤ 42) × Back days ⌝ }
-    ensures { λ r. ⌜ r ≡ daySums (now (readings .entry)) days slot ⌝ }
-{
-    let window = slot_sums(readings, days, slot);
-    let earlier = slot_sums(readings, days, slot - 10);
-    [window, earlier]
 }
