@@ -17,7 +17,7 @@ use Rattle.points.specs.Points.{Point, kindOf, numberOf}
 use Rattle.results.specs.SlotResults.{quotients, results}
 use Rattle.figures.specs.SlotTotals.{plus}
 use Rattle.ledger.specs.States.{noState, taken}
-use Rattle.figures.specs.Figures.{figuresOf}
+use Rattle.figures.specs.Figures.{settledOf, figuresOf}
 use Rattle.ledger.specs.Operations.{pointRefusal, addingRefusal, closingRefusal, closeOf}
 use Rattle.account.specs.Account.{Account, product, partsOfkW, partsOfWatt, partsOfWh, exactly, exactSum, exactShortfall, opening, Said, said, saysOf, allRefused, account}
 use Rattle.account.specs.Demand3.{takenBefore, takenAll, allQuotients, roundedTotal, noRemainder, noLoss, keepsFractions, Accurate, Agree, both-refuse, both-accept, both-close, AgreeAll, end, next, Demand3}
@@ -100,6 +100,8 @@ module _ (h : Head) (marks : List ℕ) where
       (kW-is (product h)) (watt-is (product h)) (allQuotients h marks ps) (a .kept) (a .sixes) in
       record {
         counted = a .count;
+        total = a .total;
+        settled = ap settledOf (a .total);
         unrounded = a .kept;
         equal = rw (no-loss, a .total, a .exact) (c .equal);
         otherwise = rw (no-loss, a .total, a .exact) λ t. let b = c .otherwise t in omega arith;

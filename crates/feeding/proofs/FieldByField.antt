@@ -16,8 +16,7 @@ use Rattle.ledger.specs.Operations.{openOf, addOf, resultsOf}
 use Rattle.ledger.specs.declared.State.{State}
 use Rattle.heads.proofs.Opening.{opening-content, opens}
 use Rattle.ledger.proofs.Sound.{open-refusal, open-good, add-refusal, add-good}
-use Rattle.fields.specs.Fields.{tagAt, lengthDue, fieldOf, valueIn, behind}
-use Rattle.fields.specs.Headers.{headerRefusal}
+use Rattle.fields.specs.Fields.{tagAt, lengthDue, fieldOf, valueIn, behind, headerRefusal}
 use Rattle.book.specs.Reading.{readPoints, readBook}
 use Rattle.book.specs.Endings.{refusedWith, pointsEnding, bookEnding}
 use Rattle.fields.specs.declared.Due.{Due}

@@ -9,8 +9,7 @@ use lib.ListN.{length, take, drop, replicate}
 use Rattle.ledger.specs.States.{noState}
 use Rattle.ledger.specs.Operations.{openOf, addOf}
 use Rattle.ledger.specs.declared.State.{State}
-use Rattle.fields.specs.Fields.{tagAt, lengthDue}
-use Rattle.fields.specs.Headers.{headerRefusal}
+use Rattle.fields.specs.Fields.{tagAt, lengthDue, headerRefusal}
 use Rattle.book.specs.Reading.{readBook}
 use Rattle.book.specs.Endings.{bookEnding}
 use Rattle.fields.specs.declared.Due.{Due}

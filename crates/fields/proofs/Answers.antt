@@ -7,10 +7,9 @@ use native.Mathlib.Decide.{ℕ-discrete}
 use native.Mathlib.Omega.{arith}
 use borrow.Author.Tests.{ltb-true, ltb-false, lt-ltb, le-ltb, ne-eqb}
 use lib.Dec.{ltb}
-use lib.ListN.{length, drop}
+use lib.ListN.{length}
 use Rattle.numbers.proofs.Refusals.{told, passed}
-use Rattle.fields.specs.Fields.{tagAt, lengthDue, fieldTests, fieldRefusal, fieldOf}
-use Rattle.fields.specs.Headers.{headerTests, headerRefusal}
+use Rattle.fields.specs.Fields.{tagAt, lengthDue, headerTests, headerRefusal, cutRow, fieldRefusal, fieldOf}
 use Rattle.fields.specs.declared.Due.{Due}
 use Rattle.fields.specs.declared.Field.the-variants.{Value, Refused}
 use Rattle.fields.proofs.Headers.{numbered-header}
@@ -21,7 +20,7 @@ module _ (due : Due) (left : List ℕ) where
 
   refusal-header : (headerRefusal due left ≡ 0 → ⊥) → fieldRefusal due left ≡ headerRefusal due left
   unfolding fieldRefusal headerRefusal
-  refusal-header n = told (headerTests due left) (drop 4 (fieldTests due left)) n
+  refusal-header n = told (headerTests due left) (cutRow due left) n
 
   pub field-refused : (headerRefusal due left ≡ 0 → ⊥) → fieldOf due left ≡ Refused (headerRefusal due left)
   unfolding fieldOf
@@ -30,11 +29,11 @@ module _ (due : Due) (left : List ℕ) where
   module _ (e : headerRefusal due left ≡ 0) where
     refusal-cut : length left < 3 + size → fieldRefusal due left ≡ 31
     unfolding fieldRefusal headerRefusal
-    refusal-cut h = passed (headerTests due left) (drop 4 (fieldTests due left)) (numbered-header due left) e ∙ simp (lt-ltb _ _ h)
+    refusal-cut h = passed (headerTests due left) (cutRow due left) (numbered-header due left) e ∙ simp (lt-ltb _ _ h)
 
     refusal-none : 3 + size ≤ length left → fieldRefusal due left ≡ 0
     unfolding fieldRefusal headerRefusal
-    refusal-none h = passed (headerTests due left) (drop 4 (fieldTests due left)) (numbered-header due left) e ∙ simp (le-ltb _ _ h)
+    refusal-none h = passed (headerTests due left) (cutRow due left) (numbered-header due left) e ∙ simp (le-ltb _ _ h)
 
     pub field-cut : length left < 3 + size → fieldOf due left ≡ Refused 31
     unfolding fieldOf

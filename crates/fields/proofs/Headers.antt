@@ -10,8 +10,7 @@ use lib.ListN.{length}
 use Rattle.numbers.specs.Words.{word16}
 use Rattle.numbers.proofs.Refusals.{numbered, clear}
 use Rattle.points.specs.Points.{Kind, consumer, generator, unknown, kindOf, sizeOf}
-use Rattle.fields.specs.Fields.{tagAt, isTag, isPoint, lengthDue}
-use Rattle.fields.specs.Headers.{headerTests, headerRefusal}
+use Rattle.fields.specs.Fields.{tagAt, isTag, isPoint, lengthDue, headerTests, headerRefusal}
 use Rattle.fields.specs.declared.Due.{Due}
 use Rattle.fields.specs.declared.Due.the-variants.{Head, Calendar, Point}
 

@@ -1,5 +1,5 @@
 -- Writing: a field stored byte by byte, and two fields one behind the other. Assumes nothing.
-use mathlib.Core.Path.{_≡_, sym, ap, _∙_}
+use mathlib.Core.Path.{_≡_, refl, sym, ap, _∙_}
 use mathlib.Core.List.{List, [], _∷_, _++_, append-nil, append-assoc}
 use Prim.Native.Nat.{ℕ, suc, _+_, _-_, _≤_, _<_}
 use native.Mathlib.Omega.{arith}
@@ -8,9 +8,13 @@ use lib.ListN.{length, getD, set, take, drop, drop-of-length-le, length-append, 
 use lib.Seq.{paste, take-all, take-length, take-at, drop-at, drop-drop}
 use borrow.Rule.Slice.PartMut.{putMid}
 use Rattle.numbers.specs.Words.{bytesOf}
+use Rattle.numbers.specs.Placing.{atFront}
+use Rattle.numbers.proofs.Places.{front-length}
 use Rattle.fields.specs.Fields.{written}
-use Rattle.heads.specs.Heads.{openingRefusal}
-use Rattle.fields.specs.Writing.{atFront, writtenHead, headWritingRefusal, headWritingOut}
+use Rattle.numbers.specs.Refusals.{firstOf}
+use Rattle.numbers.proofs.Refusals.{told, passed}
+use Rattle.heads.specs.Heads.{openingTests, openingRefusal}
+use Rattle.fields.specs.Writing.{roomRow, writtenHead, headWritingRefusal, headWritingOut}
 
 -- ---- the answer and the lent bytes, in each case
 
@@ -18,18 +22,26 @@ module _ (h c out : List ℕ) where
   abbrev HeadAnswer : ℕ → List ℕ → Type 0
   HeadAnswer refusal bytes = (refusal ≡ headWritingRefusal h c (length out)) × (bytes ≡ headWritingOut h c out)
 
+  head-told : (openingRefusal h c ≡ 0 → ⊥) → headWritingRefusal h c (length out) ≡ openingRefusal h c
+  unfolding headWritingRefusal openingRefusal
+  head-told n = told (openingTests h c) (roomRow (length out) 53) n
+
   pub head-refused : (openingRefusal h c ≡ 0 → ⊥) → HeadAnswer (openingRefusal h c) out
-  unfolding headWritingRefusal headWritingOut
-  head-refused n = let k = ne-eqb _ _ n in (simp k, simp (k, k))
+  unfolding headWritingOut
+  head-refused n = rw (head-told n) (refl, simp (ne-eqb _ _ n))
 
   module _ (e : openingRefusal h c ≡ 0) where
+    head-passed : headWritingRefusal h c (length out) ≡ firstOf (roomRow (length out) 53)
+    unfolding headWritingRefusal openingRefusal
+    head-passed = passed (openingTests h c) (roomRow (length out) 53) tt e
+
     pub head-room : length out < 53 → HeadAnswer 40 out
-    unfolding headWritingRefusal headWritingOut
-    head-room k = (simp (e, lt-ltb _ _ k), simp (e, lt-ltb _ _ k))
+    unfolding headWritingOut
+    head-room k = rw (head-passed, lt-ltb (length out) 53 k) (refl, refl)
 
     pub head-written : 53 ≤ length out → HeadAnswer 0 (atFront (writtenHead h c) out)
-    unfolding headWritingRefusal headWritingOut
-    head-written k = (simp (e, le-ltb _ _ k), simp (e, le-ltb _ _ k))
+    unfolding headWritingOut
+    head-written k = rw (head-passed, le-ltb (length out) 53 k) (refl, refl)
 
 -- ---- one field
 
@@ -51,9 +63,6 @@ headed-value (x ∷ y ∷ z ∷ out) value tag h = let e : 3 + length value ≡ 
 pub written-length : (tag : ℕ) (value : List ℕ) → length (written tag value) ≡ 3 + length value
 unfolding bytesOf
 written-length tag value = omega arith
-
-pub front-length : (bytes out : List ℕ) → length bytes ≤ length out → length (atFront bytes out) ≡ length out
-front-length bytes out h = simp (length-append, length-drop) (omega arith)
 
 -- ---- a head and a calendar
 

@@ -1,37 +1,36 @@
 -- What writing a point tells, row by row, and what it leaves in the lent bytes. Assumes nothing.
 use mathlib.Core.Path.{_≡_, refl, _∙_}
 use mathlib.Core.Bool.{true, false}
-use mathlib.Core.List.{List}
+use mathlib.Core.List.{List, _++_}
 use Prim.Native.Nat.{ℕ, _+_, _≤_, _<_}
 use native.Mathlib.Omega.{arith}
 use borrow.Author.Tests.{eqb-true, not-false, lt-ltb, le-ltb, ne-eqb}
-use lib.ListN.{length, drop}
+use lib.ListN.{length}
 use Rattle.numbers.specs.Refusals.{firstOf}
 use Rattle.numbers.specs.PointNumbers.{isNumber}
+use Rattle.numbers.specs.Placing.{atFront}
 use Rattle.numbers.proofs.Refusals.{untold, told, passed}
-use Rattle.points.specs.Points.{kindOf, sizeOf, numberOf}
-use Rattle.points.proofs.PointRows.{formRows, valueRows}
+use Rattle.points.specs.Points.{kindOf, sizeOf, numberOf, formRows, numberRow, valueRows}
 use Rattle.fields.specs.Fields.{written}
-use Rattle.fields.specs.Writing.{atFront, pointWritingTests, pointWritingRefusal, pointWritingOut}
-use Rattle.fields.specs.WritingRows.{writingRows, writingTold}
+use Rattle.fields.specs.Writing.{roomRow, valueWritingTests, valueWritingRefusal, pointWritingRefusal, pointWritingOut}
 use Rattle.fields.proofs.Headers.{kind-small}
 
 module _ (tag : ℕ) (value : List ℕ) where
   -- ---- the rows
 
-  pub form-told : (firstOf (formRows tag value) ≡ 0 → ⊥) → writingTold tag value ≡ firstOf (formRows tag value)
-  unfolding writingTold
-  form-told n = told (formRows tag value) (drop 2 (writingRows tag value)) n
+  pub form-told : (firstOf (formRows tag (length value)) ≡ 0 → ⊥) → valueWritingRefusal tag value ≡ firstOf (formRows tag (length value))
+  unfolding valueWritingRefusal
+  form-told n = told (formRows tag (length value)) (numberRow (numberOf value) ++ valueRows tag value) n
 
-  module _ (e : firstOf (formRows tag value) ≡ 0) where
-    form-passed : writingTold tag value ≡ firstOf (drop 2 (writingRows tag value))
-    unfolding writingTold
-    form-passed = passed (formRows tag value) (drop 2 (writingRows tag value)) tt e
+  module _ (e : firstOf (formRows tag (length value)) ≡ 0) where
+    form-passed : valueWritingRefusal tag value ≡ firstOf (numberRow (numberOf value) ++ valueRows tag value)
+    unfolding valueWritingRefusal
+    form-passed = passed (formRows tag (length value)) (numberRow (numberOf value) ++ valueRows tag value) tt e
 
-    pub number-told : isNumber (numberOf value) ≡ false → writingTold tag value ≡ 14
+    pub number-told : isNumber (numberOf value) ≡ false → valueWritingRefusal tag value ≡ 14
     number-told n = form-passed ∙ simp n
 
-    pub number-passed : isNumber (numberOf value) ≡ true → writingTold tag value ≡ firstOf (valueRows tag value)
+    pub number-passed : isNumber (numberOf value) ≡ true → valueWritingRefusal tag value ≡ firstOf (valueRows tag value)
     number-passed n = form-passed ∙ simp n
 
   -- ---- the answer and the lent bytes, in each case
@@ -40,24 +39,24 @@ module _ (tag : ℕ) (value : List ℕ) where
     abbrev PointAnswer : ℕ → List ℕ → Type 0
     PointAnswer refusal bytes = (refusal ≡ pointWritingRefusal tag value (length out)) × (bytes ≡ pointWritingOut tag value out)
 
-    told-first : (writingTold tag value ≡ 0 → ⊥) → pointWritingRefusal tag value (length out) ≡ writingTold tag value
-    unfolding pointWritingRefusal writingTold
-    told-first n = told (writingRows tag value) (drop 5 (pointWritingTests tag value (length out))) n
+    told-first : (valueWritingRefusal tag value ≡ 0 → ⊥) → pointWritingRefusal tag value (length out) ≡ valueWritingRefusal tag value
+    unfolding pointWritingRefusal valueWritingRefusal
+    told-first n = told (valueWritingTests tag value) (roomRow (length out) (3 + length value)) n
 
-    pub point-refused : (writingTold tag value ≡ 0 → ⊥) → PointAnswer (writingTold tag value) out
+    pub point-refused : (valueWritingRefusal tag value ≡ 0 → ⊥) → PointAnswer (valueWritingRefusal tag value) out
     unfolding pointWritingOut
     point-refused n = rw (told-first n) (refl, simp (ne-eqb _ _ n))
 
-    module _ (e : writingTold tag value ≡ 0) where
+    module _ (e : valueWritingRefusal tag value ≡ 0) where
       pub told-small : length value < 65536
-      unfolding writingTold
+      unfolding valueWritingRefusal
       told-small =
-          let size : length value ≡ sizeOf (kindOf tag) = eqb-true _ _ (not-false _ (untold (writingRows tag value) tt e 12)) in
+          let size : length value ≡ sizeOf (kindOf tag) = eqb-true _ _ (not-false _ (untold (valueWritingTests tag value) tt e 12)) in
           omega (arith, kind-small (kindOf tag))
 
-      room-next : pointWritingRefusal tag value (length out) ≡ firstOf (drop 5 (pointWritingTests tag value (length out)))
-      unfolding pointWritingRefusal writingTold
-      room-next = passed (writingRows tag value) (drop 5 (pointWritingTests tag value (length out))) tt e
+      room-next : pointWritingRefusal tag value (length out) ≡ firstOf (roomRow (length out) (3 + length value))
+      unfolding pointWritingRefusal valueWritingRefusal
+      room-next = passed (valueWritingTests tag value) (roomRow (length out) (3 + length value)) tt e
 
       pub point-room : length out < 3 + length value → PointAnswer 40 out
       unfolding pointWritingOut

@@ -32,16 +32,32 @@ isPoint Head = false
 isPoint Calendar = false
 isPoint Point = true
 
--- 20: no byte left where a point is due. 31: under three bytes left. 41: wrong tag for head or calendar; 11 for a point. 1 or 12: wrong
--- length. 31: value cut.
+-- '20: no byte left where a point is due. 31: under three bytes left.'
+abbrev pub shortRows : Due → ℕ → List (Bool × ℕ)
+shortRows due size = (isPoint due && eqb size 0, 20) ∷ (ltb size 3, 31) ∷ []
+
+-- '41: wrong tag for head or calendar; 11 for a point'
+abbrev pub dueTagRow : Due → ℕ → List (Bool × ℕ)
+dueTagRow due tag = (not (isTag due tag), cond (isPoint due) 11 41) ∷ []
+
+-- '1 or 12: wrong length'
+abbrev pub dueLengthRow : Due → ℕ → ℕ → List (Bool × ℕ)
+dueLengthRow due tag size = (not (eqb size (lengthDue due tag)), cond (isPoint due) 12 1) ∷ []
+
+-- a field's header, its first three bytes
+abbrev pub headerTests : Due → List ℕ → List (Bool × ℕ)
+headerTests due left =
+    shortRows due (length left) ++ dueTagRow due (tagAt left) ++ dueLengthRow due (tagAt left) (word16 left 1)
+
+unfoldable pub headerRefusal : Due → List ℕ → ℕ
+headerRefusal due left = firstOf (headerTests due left)
+
+-- '31: value cut'
+abbrev pub cutRow : Due → List ℕ → List (Bool × ℕ)
+cutRow due left = (ltb (length left) (3 + lengthDue due (tagAt left)), 31) ∷ []
+
 abbrev pub fieldTests : Due → List ℕ → List (Bool × ℕ)
-fieldTests due left =
-    (isPoint due && eqb (length left) 0, 20)
-    ∷ (ltb (length left) 3, 31)
-    ∷ (not (isTag due (tagAt left)), cond (isPoint due) 11 41)
-    ∷ (not (eqb (word16 left 1) (lengthDue due (tagAt left))), cond (isPoint due) 12 1)
-    ∷ (ltb (length left) (3 + lengthDue due (tagAt left)), 31)
-    ∷ []
+fieldTests due left = headerTests due left ++ cutRow due left
 
 unfoldable pub fieldRefusal : Due → List ℕ → ℕ
 fieldRefusal due left = firstOf (fieldTests due left)

@@ -1,4 +1,2 @@
 pub mod Fields
-pub mod Headers
 pub mod Writing
-pub mod WritingRows

@@ -2,9 +2,10 @@
 ghost use mathlib.Core.Path.{_≡_};
 ghost use Prim.Native.Nat.{ℕ, _+_, _<_, _≤_};
 ghost use lib.ListN.{length};
+ghost use Rattle.numbers.specs.Placing.{atFront};
 ghost use Rattle.fields.specs.Fields.{written};
-ghost use Rattle.fields.specs.Writing.{atFront, headWritingRefusal, headWritingOut, pointWritingRefusal, pointWritingOut};
-ghost use Rattle.fields.specs.WritingRows.{writingTold};
+ghost use Rattle.fields.specs.Writing.{headWritingRefusal, headWritingOut};
+ghost use Rattle.fields.specs.Writing.{valueWritingRefusal, pointWritingRefusal, pointWritingOut};
 use crate::refusals;
 
 // A field over the first of the lent bytes.
@@ -42,7 +43,7 @@ pub fn write_head(head: &[u8], calendar: &[u8], out: &mut [u8]) -> u32
 
 // What is refused in a point before room is looked for: 11, 12, 14, 16, 17.
 fn point_refusal(tag: u8, value: &[u8]) -> u32
-    ensures { λ r. ⌜ r ≡ writingTold tag (now (value .entry)) ⌝ }
+    ensures { λ r. ⌜ r ≡ valueWritingRefusal tag (now (value .entry)) ⌝ }
 {
     let form = points::form_refusal(tag, value.len());
     if form != heads::refusals::ACCEPTED {

@@ -1,7 +1,7 @@
 -- Adding in steps: the early refusals, then the days. Assumes nothing.
 use mathlib.Core.Path.{_≡_, refl, sym, _∙_}
 use mathlib.Core.Bool.{Bool, true, false, true≢false}
-use mathlib.Core.List.{List, [], _∷_}
+use mathlib.Core.List.{List}
 use Prim.Native.Nat.{ℕ, _+_, _<_, _≤_}
 use native.Mathlib.Omega.{arith}
 use lib.IntN.{ℤ, pos, natAbs}
@@ -11,13 +11,12 @@ use Rattle.numbers.specs.Refusals.{firstOf}
 use Rattle.numbers.proofs.Refusals.{testOf, untold, told, passed}
 use Rattle.points.specs.Points.{Kind, kindOf, isUnknown, sizeOf, isUnfit, hasLarge}
 use Rattle.results.specs.SlotResults.{lacksDays, results}
-use Rattle.ledger.specs.Operations.{addingRefusal, placesOf, resultsOf}
-use Rattle.ledger.specs.Steps.{earlyTests, earlyRefusal}
+use Rattle.ledger.specs.Operations.{daysRow, addingRefusal, earlyTests, earlyRefusal, placesOf, resultsOf}
 use Rattle.heads.specs.declared.Head.{Head}
 use Rattle.ledger.specs.declared.State.{State}
 use Rattle.results.specs.Steps.{foundOf}
 use Rattle.heads.proofs.Opening.{opens}
-use Rattle.points.proofs.PointRows.{known-length}
+use Rattle.points.proofs.Forms.{known-length}
 use Rattle.ledger.proofs.Taking.{takes, result-small}
 use Rattle.ledger.proofs.Sound.{Sound, sound, adding-sound}
 use Rattle.ledger.proofs.TotalBounds.{total-small}
@@ -44,17 +43,17 @@ module _ (h : Head) (marks : List ℕ) (kind : Kind) (value : List ℕ) where
 -- ---- the rows
 
 module _ (state : State) (tag : ℕ) (value : List ℕ) (places : ℕ) where
-  abbrev daysRow : List (Bool × ℕ)
-  daysRow = (lacksDays (state .head) (state .marks) (kindOf tag) value, 18) ∷ []
+  abbrev days : List (Bool × ℕ)
+  days = daysRow (state .head) (state .marks) tag value
 
   pub early-told : (earlyRefusal state tag value places ≡ 0 → ⊥) → addingRefusal state tag value places ≡ earlyRefusal state tag value places
   unfolding addingRefusal earlyRefusal
-  early-told h = told (earlyTests state tag value places) daysRow h
+  early-told h = told (earlyTests state tag value places) days h
 
   module _ (early : earlyRefusal state tag value places ≡ 0) where
-    early-passed : addingRefusal state tag value places ≡ firstOf daysRow
+    early-passed : addingRefusal state tag value places ≡ firstOf days
     unfolding addingRefusal earlyRefusal
-    early-passed = passed (earlyTests state tag value places) daysRow tt early
+    early-passed = passed (earlyTests state tag value places) days tt early
 
     pub days-told : lacksDays (state .head) (state .marks) (kindOf tag) value ≡ true → addingRefusal state tag value places ≡ 18
     days-told e = early-passed ∙ simp e

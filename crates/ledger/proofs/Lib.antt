@@ -1,5 +1,7 @@
-pub mod EarlyRows
+pub mod Moving
 pub mod Taking
 pub mod Sound
+pub mod Totals
 pub mod TotalBounds
 pub mod AddSteps
+pub mod Within

@@ -7,30 +7,29 @@ use Prim.Native.Nat.{ℕ, _+_, _*_, _<_, _≤_}
 use native.Mathlib.Decide.{ℕ-discrete}
 use native.Mathlib.Omega.{arith}
 use lib.Dec.{T, ltb, eqb}
-use lib.IntN.{ℤ, natAbs, _+ℤ_}
 use mir.Facts.{ltb-no, no-ltb, no-eqb}
 use borrow.Author.Tests.{eqb-true, eq-eqb, ne-eqb, not-false}
 use Rattle.numbers.specs.Lists.{any}
 use Rattle.numbers.specs.Refusals.{firstOf}
 use Rattle.numbers.specs.PointNumbers.{isNumber}
-use Rattle.integers.proofs.Machine.{sum-abs}
 use Rattle.calendar.specs.Dates.{isDate}
 use Rattle.heads.specs.Limits.{mostResult}
 use Rattle.heads.specs.Heads.{headOf, contentRefusal, openingRefusal}
-use Rattle.points.specs.Points.{numberOf}
-use Rattle.figures.specs.SlotTotals.{plus}
+use Rattle.points.specs.Points.{kindOf, numberOf}
 use Rattle.ledger.specs.States.{opened, noState, isUnsound, taken}
 use Rattle.figures.specs.Figures.{figuresOf, noFigures}
-use Rattle.ledger.specs.Operations.{openOf, pointTests, pointRefusal, addingRefusal, resultsOf, addOf, closingRefusal, closeOf}
+use Rattle.ledger.specs.Operations.{openOf, pointTests, pointRefusal, addingTests, addingRefusal, resultsOf, addOf, closingRefusal, closeOf}
 use Rattle.heads.specs.declared.Head.{Head}
 use Rattle.ledger.specs.declared.State.{State}
 use Rattle.ledger.specs.declared.Opened.{Opened}
 use Rattle.ledger.specs.declared.Added.{Added}
 use Rattle.ledger.specs.declared.Closed.{Closed}
+use Rattle.numbers.proofs.Refusals.{untold}
 use Rattle.numbers.proofs.Tests.{noneOf, none-cons, no-false}
 use Rattle.heads.proofs.Opening.{opening-content, opens}
 use Rattle.results.proofs.Bounds.{isBeyond}
-use Rattle.ledger.proofs.Taking.{takes, results-small}
+use Rattle.ledger.proofs.Moving.{plus-small}
+use Rattle.ledger.proofs.Taking.{Takes, takes, results-small}
 use Rattle.ledger.specs.Calls.{Call, adding, closing, Reply, refused, accepted, closed, replyOf, replies, program}
 
 -- ---- the answers of the operations, by the refusal
@@ -121,18 +120,6 @@ module _ (head calendar : List ℕ) (accepted : openingRefusal head calendar ≡
   unfolding any
   opened-sound = record { content = opening-content head calendar accepted; room = omega arith; totals = tt; last = tt }
 
-plus-small : (k l : ℕ) (xs ys : List ℤ) → T (noneOf (isBeyond k) xs) → T (noneOf (isBeyond l) ys) → T (noneOf (isBeyond (k + l)) (plus xs ys))
-unfolding plus any
-plus-small k l [] ys p q = tt
-plus-small k l (x ∷ xs) [] p q = tt
-plus-small k l (x ∷ xs) (y ∷ ys) p q =
-    let f = none-cons (isBeyond k) x xs .0 p in
-    let g = none-cons (isBeyond l) y ys .0 q in
-    let small-x : natAbs x ≤ k = ltb-no (f .0) in
-    let small-y : natAbs y ≤ l = ltb-no (g .0) in
-    let small : natAbs (x +ℤ y) ≤ k + l = omega (arith, sum-abs x y) in
-    none-cons (isBeyond (k + l)) (x +ℤ y) (plus xs ys) .1 (no-ltb small, plus-small k l xs ys (f .1) (g .1))
-
 shown : (some number : Bool) → T number → T (not (some && not number))
 shown true true t = tt
 shown true false t = absurd t
@@ -169,6 +156,15 @@ module _ (state : State) (s : Sound state) (tag : ℕ) (value : List ℕ) (place
 pub closing-sound : (state : State) → Sound state → closingRefusal state ≡ cond (ltb (state .points) (state .head .count)) 20 0
 unfolding closingRefusal
 closing-sound state s = rw (sound-is state s)
+
+-- an accepted adding was given a sound state and a point to take
+module _ (state : State) (tag : ℕ) (value : List ℕ) (places : ℕ) (e : addingRefusal state tag value places ≡ 0) where
+  pub accepted-sound : Sound state
+  unfolding addingRefusal
+  accepted-sound = sound state (untold (addingTests state tag value places) tt e 9)
+
+  pub accepted-takes : Takes (state .head) (state .marks) (state .points) (state .last) (kindOf tag) value places
+  accepted-takes = takes _ _ _ _ tag value places (sym (adding-sound state accepted-sound tag value places) ∙ e)
 
 -- the state of zeros, which a refused opening gives, is not sound
 pub nothing-unsound : isUnsound noState ≡ true

@@ -1,4 +1,5 @@
 pub mod States
 pub mod Operations
-pub mod Steps
 pub mod Calls
+pub mod Totals
+pub mod Within

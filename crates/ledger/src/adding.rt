@@ -1,20 +1,14 @@
 // The refusals of adding, in the order in which they are told.
 ghost use mathlib.Core.Path.{_≡_};
-ghost use mathlib.Core.Bool.{not, _&&_};
-ghost use mathlib.Core.List.{List, [], _∷_};
-ghost use Prim.Native.Nat.{ℕ};
-ghost use lib.Dec.{leb, ltb};
 ghost use Rattle.numbers.specs.Refusals.{firstOf};
-ghost use Rattle.numbers.specs.PointNumbers.{isNumber, below};
-ghost use Rattle.ledger.specs.States.{isUnsound};
-ghost use Rattle.ledger.specs.Steps.{earlyRefusal};
+ghost use Rattle.ledger.specs.Operations.{numberRows, stateRows, earlyRefusal};
 use crate::State;
 use crate::states;
 use heads::refusals;
 
 // A number that is not allowed, or not above the last one; the first point has none before it.
 fn number_refusal(number: &[u8], points: u32, last: [u8; 22]) -> u32
-    ensures { λ r. ⌜ r ≡ firstOf ((not (isNumber (now (number .entry))), 14) ∷ (ltb 0 points && not (below last (now (number .entry))), 15) ∷ []) ⌝ }
+    ensures { λ r. ⌜ r ≡ firstOf (numberRows points last (now (number .entry))) ⌝ }
 {
     if !numbers::is_number(number) {
         return refusals::POINT_NUMBER;
@@ -30,7 +24,7 @@ fn number_refusal(number: &[u8], points: u32, last: [u8; 22]) -> u32
 
 // A state that 9 refuses, or one whose count is reached.
 fn state_refusal(state: State) -> u32
-    ensures { λ r. ⌜ r ≡ firstOf ((isUnsound state, 9) ∷ (leb (state .head .count) (state .points), 10) ∷ []) ⌝ }
+    ensures { λ r. ⌜ r ≡ firstOf (stateRows state) ⌝ }
 {
     if states::is_unsound(state) {
         return refusals::UNSOUND_STATE;
@@ -47,9 +41,9 @@ fn state_refusal(state: State) -> u32
 pub fn early_refusal(state: State, tag: u8, value: &[u8], places: usize) -> u32
     ensures { λ r. ⌜ r ≡ earlyRefusal state tag (now (value .entry)) places ⌝ }
 {
-    let standing = state_refusal(state);
-    if standing != refusals::ACCEPTED {
-        return standing;
+    let unsound = state_refusal(state);
+    if unsound != refusals::ACCEPTED {
+        return unsound;
     }
     let form = points::form_refusal(tag, value.len());
     if form != refusals::ACCEPTED {

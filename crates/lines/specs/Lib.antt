@@ -1,3 +1,3 @@
 pub mod Ascii
 pub mod Numerals
-pub mod Placing
+pub mod Line

@@ -1,10 +1,9 @@
 // Words and numbers, put from a place on. Each answers the place behind what it put.
-ghost use mathlib.Core.List.{_++_};
 ghost use Prim.Native.Nat.{_+_, _≤_};
 ghost use lib.ListN.{length};
-ghost use Rattle.lines.specs.Ascii.{ascii};
+ghost use Rattle.numbers.specs.Placing.{Placed};
 ghost use Rattle.lines.specs.Numerals.{decimal, twoDigits, signed};
-ghost use Rattle.lines.specs.Placing.{Placed};
+ghost use Rattle.lines.specs.Line.{lineOf};
 
 pub fn put(text: &[u8], at: usize, out: &mut [u8]) -> usize
     requires { ⌜ at + length (now text) ≤ length (now out) ⌝ }
@@ -58,7 +57,7 @@ pub fn put_signed(number: i64, at: usize, out: &mut [u8]) -> usize
 // A name, a number, the line's end.
 pub fn put_line(name: &[u8], number: u64, at: usize, out: &mut [u8]) -> usize
     requires { ⌜ at + (length (now name) + 21) ≤ length (now out) ⌝ }
-    ensures { λ r. ⌜ Placed (now (name .entry) ++ (decimal number ++ ascii "\n")) at (now (out .entry)) r (now (out .exit)) ⌝ }
+    ensures { λ r. ⌜ Placed (lineOf (now (name .entry)) (decimal number)) at (now (out .entry)) r (now (out .exit)) ⌝ }
     ensures { λ r. ⌜ r ≤ at + (length (now (name .entry)) + 21) ⌝ }
 {
     let named = put(name, at, out);
@@ -68,7 +67,7 @@ pub fn put_line(name: &[u8], number: u64, at: usize, out: &mut [u8]) -> usize
 
 pub fn put_signed_line(name: &[u8], number: i64, at: usize, out: &mut [u8]) -> usize
     requires { ⌜ at + (length (now name) + 22) ≤ length (now out) ⌝ }
-    ensures { λ r. ⌜ Placed (now (name .entry) ++ (signed number ++ ascii "\n")) at (now (out .entry)) r (now (out .exit)) ⌝ }
+    ensures { λ r. ⌜ Placed (lineOf (now (name .entry)) (signed number)) at (now (out .entry)) r (now (out .exit)) ⌝ }
     ensures { λ r. ⌜ r ≤ at + (length (now (name .entry)) + 22) ⌝ }
 {
     let named = put(name, at, out);

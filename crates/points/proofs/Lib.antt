@@ -1,1 +1,1 @@
-pub mod PointRows
+pub mod Forms

@@ -1,10 +1,11 @@
 -- Points (document 01, 'The test book'): consumers, tag 3, and generators, tag 4.
 use mathlib.Core.Bool.{Bool, true, false, cond, not, _&&_}
-use mathlib.Core.List.{List, []}
+use mathlib.Core.List.{List, [], _∷_, _++_}
 use Prim.Native.Nat.{ℕ}
 use lib.Dec.{leb, ltb, eqb}
 use lib.ListN.{getD, take, drop}
 use Rattle.numbers.specs.Words.{word32}
+use Rattle.numbers.specs.PointNumbers.{isNumber}
 use Rattle.readings.specs.Readings.{firstLarge}
 use Rattle.heads.specs.Limits.{mostBaseline}
 
@@ -60,3 +61,33 @@ isUnfit unknown value = false
 -- 17: 'any reading above 1,000,000,000, used or not'
 abbrev pub hasLarge : Kind → List ℕ → Bool
 hasLarge kind value = ltb (firstLarge (readingsOf kind value) (readingCount kind)) (readingCount kind)
+
+-- THE ROWS that a point's tag and value alone decide: adding's table and that of writing are joined from them.
+
+-- 11: 'tag not 3 or 4'
+abbrev pub tagRow : ℕ → List (Bool × ℕ)
+tagRow tag = (isUnknown (kindOf tag), 11) ∷ []
+
+-- 12: 'length not that of the tag'
+abbrev pub lengthRow : ℕ → ℕ → List (Bool × ℕ)
+lengthRow tag size = (not (eqb size (sizeOf (kindOf tag))), 12) ∷ []
+
+-- the form of a point, whose value has so many bytes
+abbrev pub formRows : ℕ → ℕ → List (Bool × ℕ)
+formRows tag size = tagRow tag ++ lengthRow tag size
+
+-- 14: 'number not 22 digits, or all nines'
+abbrev pub numberRow : List ℕ → List (Bool × ℕ)
+numberRow number = (not (isNumber number), 14) ∷ []
+
+-- 16
+abbrev pub unfitRow : ℕ → List ℕ → List (Bool × ℕ)
+unfitRow tag value = (isUnfit (kindOf tag) value, 16) ∷ []
+
+-- 17
+abbrev pub largeRow : ℕ → List ℕ → List (Bool × ℕ)
+largeRow tag value = (hasLarge (kindOf tag) value, 17) ∷ []
+
+-- the value of a point behind its number
+abbrev pub valueRows : ℕ → List ℕ → List (Bool × ℕ)
+valueRows tag value = unfitRow tag value ++ largeRow tag value

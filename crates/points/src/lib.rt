@@ -6,7 +6,7 @@ ghost use Prim.Native.Nat.{ℕ, _<_, _≤_, _-_};
 ghost use lib.Dec.{leb, eqb};
 ghost use lib.ListN.{length, getD};
 ghost use Rattle.numbers.specs.Refusals.{firstOf};
-ghost use Rattle.points.specs.Points.{kindOf, isUnknown, sizeOf, numberOf, isUnfit, hasLarge};
+ghost use Rattle.points.specs.Points.{kindOf, isUnknown, sizeOf, numberOf, isUnfit, hasLarge, formRows, valueRows};
 use heads::refusals;
 
 pub const CONSUMER: u8 = 3;
@@ -100,7 +100,7 @@ pub fn number_of(value: &[u8]) -> [u8; 22]
 
 // A tag of no point, or a value that is not as long as its tag says.
 pub fn form_refusal(tag: u8, length: usize) -> u32
-    ensures { λ r. ⌜ r ≡ firstOf ((isUnknown (kindOf tag), 11) ∷ (not (eqb length (sizeOf (kindOf tag))), 12) ∷ []) ⌝ }
+    ensures { λ r. ⌜ r ≡ firstOf (formRows tag length) ⌝ }
 {
     if is_unknown_tag(tag) {
         return refusals::POINT_TAG;
@@ -114,7 +114,7 @@ pub fn form_refusal(tag: u8, length: usize) -> u32
 // A class, a baseline or a reading that is not allowed.
 pub fn value_refusal(tag: u8, value: &[u8]) -> u32
     requires { ⌜ length (now value) ≡ sizeOf (kindOf tag) ⌝ }
-    ensures { λ r. ⌜ r ≡ firstOf ((isUnfit (kindOf tag) (now (value .entry)), 16) ∷ (hasLarge (kindOf tag) (now (value .entry)), 17) ∷ []) ⌝ }
+    ensures { λ r. ⌜ r ≡ firstOf (valueRows tag (now (value .entry))) ⌝ }
 {
     if is_unfit(tag, value) {
         return refusals::CLASS_OR_BASELINE;

@@ -1,4 +1,3 @@
 pub mod Slots
 pub mod Texts
-pub mod Fronts
 pub mod FieldByField

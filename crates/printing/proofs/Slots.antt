@@ -9,9 +9,10 @@ use lib.IntN.{ℤ, pos}
 use lib.ListN.{length, getD, take}
 use Rattle.lines.specs.Ascii.{ascii}
 use Rattle.lines.specs.Numerals.{decimal, signed}
-use Rattle.lines.specs.Placing.{Placed}
-use Rattle.printing.specs.Printed.{line, slotLines}
-use Rattle.lines.proofs.Places.{named}
+use Rattle.numbers.specs.Placing.{Placed}
+use Rattle.lines.specs.Line.{line}
+use Rattle.printing.specs.Printed.{slotLines}
+use Rattle.numbers.proofs.Places.{named}
 
 -- the line of one slot
 abbrev pub slotLine : ℕ → ℤ → List ℕ

@@ -4,10 +4,10 @@ use mathlib.Core.Path.{_≡_}
 use mathlib.Core.Bool.{Bool, cond}
 use mathlib.Core.List.{List, [], _∷_, _++_}
 use Prim.Native.Nat.{ℕ, suc, _≤_}
-use Prim.Native.String.{String}
 use lib.Dec.{eqb}
 use lib.IntN.{ℤ}
 use Rattle.heads.specs.declared.Head.{Head}
+use Rattle.ledger.specs.States.{slotTotals}
 use Rattle.ledger.specs.Operations.{closeOf}
 use Rattle.ledger.specs.declared.State.{State}
 use Rattle.figures.specs.declared.Figures.{Figures}
@@ -17,10 +17,7 @@ use Rattle.book.specs.declared.Ending.{Ending}
 use Rattle.feeding.specs.Feeding.{startOf, fed, endingFed, mostFeedings}
 use Rattle.lines.specs.Ascii.{ascii}
 use Rattle.lines.specs.Numerals.{decimal, twoDigits, signed}
-
--- a name, what is told, the line's end
-abbrev pub line : String → List ℕ → List ℕ
-line name told = ascii name ++ (told ++ ascii "\n")
+use Rattle.lines.specs.Line.{line}
 
 -- a month or a day, behind a dash
 abbrev pub dashed : ℕ → List ℕ
@@ -57,7 +54,7 @@ capacityLines figures =
 
 abbrev pub settledText : State → Figures → List ℕ
 settledText state figures =
-    dateLine (state .head) ++ (line "points " (decimal (figures .points)) ++ (slotLines 1 (state .totals) ++ (settledLines figures ++ capacityLines figures)))
+    dateLine (state .head) ++ (line "points " (decimal (figures .points)) ++ (slotLines 1 (slotTotals state) ++ (settledLines figures ++ capacityLines figures)))
 
 abbrev pub refusedText : ℕ → List ℕ
 refusedText refusal = line "refused " (decimal refusal)

@@ -7,8 +7,7 @@ use native.Mathlib.Omega.{arith}
 use lib.ListN.{length, take, drop, length-append, take-append-drop}
 use lib.Seq.{take-at, drop-at, length-take-le, getD-drop}
 use Rattle.numbers.specs.Words.{bytesOf}
-use Rattle.fields.specs.Fields.{tagAt, isTag, lengthDue, valueIn, behind, written}
-use Rattle.fields.specs.Headers.{headerRefusal}
+use Rattle.fields.specs.Fields.{tagAt, isTag, lengthDue, valueIn, behind, written, headerRefusal}
 use Rattle.fields.specs.declared.Due.{Due}
 use Rattle.fields.proofs.Headers.{length-small, header-good, Header, header-shows}
 use Rattle.fields.proofs.Answers.{field-good, Answer, no-header, no-value, whole, answer}

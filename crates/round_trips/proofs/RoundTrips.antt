@@ -7,15 +7,16 @@ use native.Mathlib.Nat.{zero-add}
 use native.Mathlib.Numerals.{add-one}
 use native.Mathlib.Decide.{ℕ-discrete}
 use native.Mathlib.Omega.{arith}
-use borrow.Author.Tests.{eqb-true, ne-eqb, not-false, lt-leb, lt-ltb, le-ltb}
+use borrow.Author.Tests.{eqb-true, not-false, lt-leb, lt-ltb, le-ltb}
 use lib.Dec.{T, ltb}
 use lib.ListN.{length}
 use mir.Facts.{and-yes, yes-and}
 use Rattle.numbers.specs.Lists.{gather}
 use Rattle.numbers.specs.PointNumbers.{below}
-use Rattle.numbers.proofs.Refusals.{testOf, untold, clear-zero}
+use Rattle.numbers.specs.Refusals.{firstOf}
+use Rattle.numbers.proofs.Refusals.{testOf, untold, clear-zero, told, passed}
 use Rattle.numbers.proofs.Tests.{no-false}
-use Rattle.heads.specs.Heads.{headOf, openingRefusal}
+use Rattle.heads.specs.Heads.{headOf, openingTests, openingRefusal}
 use Rattle.points.specs.Points.{Point, kindOf, numberOf}
 use Rattle.results.specs.SlotResults.{lacksDays}
 use Rattle.ledger.specs.States.{opened, taken}
@@ -27,7 +28,7 @@ use Rattle.ledger.proofs.Sound.{open-refusal, open-good, add-refusal, add-good,
 use Rattle.fields.specs.Fields.{written}
 use Rattle.book.specs.Reading.{good, Points, before, readPoints, Book, bookOf, readBook}
 use Rattle.book.specs.Settling.{settlingRefusal}
-use Rattle.fields.specs.Writing.{headWritingRefusal, pointWritingTests, pointWritingRefusal}
+use Rattle.fields.specs.Writing.{roomRow, headWritingRefusal, pointWritingTests, pointWritingRefusal}
 use Rattle.round_trips.specs.Demand2.{risesAfter, rises, headRoom, roomFor, Each, Bytes, ReadsBack, ReadInFull, WrittenGivesZero, ReadsWritable, WritesSame, writtenBook}
 use Rattle.fields.specs.declared.Due.the-variants as due
 use Rattle.round_trips.proofs.Cutting.{reads-field, was-written}
@@ -162,16 +163,16 @@ points-same {left} b (more {part} cut e read) =
 
 -- what `write_head` asks of a head is what opening asks, and room
 pub head-opens : (h c : List ℕ) → headWritingRefusal h c headRoom ≡ 0 → openingRefusal h c ≡ 0
-unfolding headWritingRefusal
-head-opens h c e = go (ℕ-discrete (openingRefusal h c) 0)
+unfolding headWritingRefusal openingRefusal
+head-opens h c e = go (ℕ-discrete (firstOf (openingTests h c)) 0)
   where
-    go : Dec (openingRefusal h c ≡ 0) → openingRefusal h c ≡ 0
+    go : Dec (firstOf (openingTests h c) ≡ 0) → firstOf (openingTests h c) ≡ 0
     go (yes z) = z
-    go (no n) = simp (ne-eqb _ _ n) at e
+    go (no n) = absurd (n (sym (told (openingTests h c) (roomRow headRoom 53) n) ∙ e))
 
 head-takes : (h c : List ℕ) → openingRefusal h c ≡ 0 → headWritingRefusal h c headRoom ≡ 0
-unfolding headWritingRefusal
-head-takes h c e = simp e
+unfolding headWritingRefusal openingRefusal
+head-takes h c e = passed (openingTests h c) (roomRow headRoom 53) tt e
 
 pub reads-back : ReadsBack
 unfolding readBook writtenBook

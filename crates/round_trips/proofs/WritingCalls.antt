@@ -1,27 +1,23 @@
 -- The writing calls, one behind the other. Assumes nothing.
 use mathlib.Core.Path.{_≡_, refl, sym, ap, ap₂, _∙_}
-use mathlib.Core.List.{List, [], _∷_, _++_, map, append-assoc}
+use mathlib.Core.List.{List, [], _∷_, _++_, map}
 use Prim.Native.Nat.{ℕ, _≤_}
 use native.Mathlib.Omega.{arith}
 use borrow.Author.Tests.{le-ltb}
 use lib.ListN.{length, take, drop, length-append, length-drop}
-use lib.Seq.{take-at, drop-at, drop-drop}
+use lib.Seq.{take-at, drop-at}
 use Rattle.numbers.specs.Lists.{gather}
+use Rattle.numbers.specs.Placing.{atFront}
+use Rattle.numbers.proofs.Places.{front-then}
 use Rattle.numbers.proofs.Refusals.{clear-zero}
 use Rattle.heads.proofs.Opening.{opening-lengths}
 use Rattle.points.specs.Points.{Point}
 use Rattle.fields.specs.Fields.{written}
-use Rattle.fields.specs.Writing.{atFront, writtenHead, pointWritingTests, pointWritingRefusal, pointWritingOut}
+use Rattle.fields.specs.Writing.{writtenHead, pointWritingTests, pointWritingRefusal, pointWritingOut}
 use Rattle.fields.proofs.Storing.{head-written, written-length}
 use Rattle.round_trips.specs.Demand2.{headRoom, roomFor, writtenBook, Each}
 use Rattle.round_trips.specs.WritingCalls.{pointsOut, pointsAnswers, bookOut, bookAnswers, WritingCalls}
 use Rattle.round_trips.proofs.RoundTrips.{Takes, writtenPoints, writing-untold, head-opens}
-
--- a text at the front, and another behind it
-front-front : (first second out : List ℕ) → first ++ atFront second (drop (length first) out) ≡ atFront (first ++ second) out
-front-front first second out =
-    sym (append-assoc first second (drop (length second) (drop (length first) out)))
-    ∙ ap (λ bytes. (first ++ second) ++ bytes) (drop-drop (length second) (length first) out ∙ ap (λ (n : ℕ). drop n out) (sym (length-append first second)))
 
 -- a point that writing takes is taken where there is more room
 taken-with : (p : Point) (room : ℕ) → Takes p → roomFor p ≤ room → pointWritingRefusal (p .tag) (p .value) room ≡ 0
@@ -45,7 +41,7 @@ module _ (first out : List ℕ) (n : ℕ) (points : List Point) (e : length firs
   behind-is = drop-at first (drop (length first) out) n e
 
   then-bytes : take n (atFront first out) ++ pointsOut points (drop n (atFront first out)) ≡ atFront (first ++ writtenPoints points) out
-  then-bytes = rw (take-at first (drop (length first) out) n e, behind-is, w .bytes) (front-front first (writtenPoints points) out)
+  then-bytes = rw (take-at first (drop (length first) out) n e, behind-is, w .bytes) (front-then first out (writtenPoints points))
 
   then-answers : pointsAnswers points (drop n (atFront first out)) ≡ map (λ p. 0) points
   then-answers = rw behind-is (w .answers)

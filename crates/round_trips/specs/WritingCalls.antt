@@ -3,8 +3,9 @@ use mathlib.Core.Path.{_≡_}
 use mathlib.Core.List.{List, [], _∷_, _++_, map}
 use Prim.Native.Nat.{ℕ, _≤_}
 use lib.ListN.{length, take, drop}
+use Rattle.numbers.specs.Placing.{atFront}
 use Rattle.points.specs.Points.{Point}
-use Rattle.fields.specs.Writing.{atFront, headWritingRefusal, headWritingOut, pointWritingRefusal, pointWritingOut}
+use Rattle.fields.specs.Writing.{headWritingRefusal, headWritingOut, pointWritingRefusal, pointWritingOut}
 use Rattle.book.specs.Reading.{Contents}
 use Rattle.round_trips.specs.Demand2.{headRoom, roomFor, writtenBook, Writable}
 

@@ -3,7 +3,7 @@ ghost use mathlib.Core.Path.{_≡_};
 ghost use Prim.Native.Nat.{_≤_};
 ghost use lib.ListN.{length};
 ghost use Rattle.io.specs.Counts.{Counts};
-ghost use Rattle.fields.specs.Writing.{atFront};
+ghost use Rattle.numbers.specs.Placing.{atFront};
 ghost use Rattle.feeding.specs.Feeding.{endingFed};
 ghost use Rattle.printing.specs.Printed.{textOf};
 use book::Ending;

@@ -9,7 +9,8 @@ use Rattle.numbers.specs.Words.{bytesOf}
 use Rattle.fields.specs.Fields.{written}
 use Rattle.worked_examples.specs.Examples.{head}
 use Rattle.lines.specs.Ascii.{ascii}
-use Rattle.printing.specs.Printed.{line, bookText}
+use Rattle.lines.specs.Line.{line}
+use Rattle.printing.specs.Printed.{bookText}
 
 -- generator 0000000000000000000001, baseline 0, six readings of 550,000; M's head is that of H
 abbrev pub generator : List ℕ

@@ -12,7 +12,12 @@ use settlement::books::seeded_book;
 use settlement::{book, writing};
 
 extern "C" {
-    fn tembuyas_settle_book(book: *const u8, book_length: usize, result: *mut u8, result_length: usize) -> u32;
+    fn tembuyas_settle_book(
+        book: *const u8,
+        book_length: usize,
+        result: *mut u8,
+        result_length: usize,
+    ) -> u32;
     fn tembuyas_write_head(
         head: *const u8,
         head_length: usize,
@@ -21,7 +26,13 @@ extern "C" {
         out: *mut u8,
         out_length: usize,
     ) -> u32;
-    fn tembuyas_write_point(tag: u8, value: *const u8, value_length: usize, out: *mut u8, out_length: usize) -> u32;
+    fn tembuyas_write_point(
+        tag: u8,
+        value: *const u8,
+        value_length: usize,
+        out: *mut u8,
+        out_length: usize,
+    ) -> u32;
 }
 
 /// Bytes on both sides of lent memory, which must keep their values.
@@ -54,7 +65,8 @@ fn compare_settling(book: &[u8], length: usize) -> Result<u32, String> {
     let refusal = book::settle(book, expected.lent());
     let guarded = Guarded::new(book);
     let mut found = Lent::new(length);
-    let answer = unsafe { tembuyas_settle_book(guarded.pointer(), book.len(), found.pointer(), length) };
+    let answer =
+        unsafe { tembuyas_settle_book(guarded.pointer(), book.len(), found.pointer(), length) };
     if answer != refusal {
         return Err(format!("settling answered {answer}, not {refusal}"));
     }
@@ -93,28 +105,48 @@ impl Guarded {
 
 /// Writes the parts of a book both ways, into lent bytes of several lengths.
 fn compare_writing(book: &[u8], number: u64) -> Result<(), String> {
-    let ToWrite { head, calendar, tag, value, room } = to_write(book, number);
+    let ToWrite {
+        head,
+        calendar,
+        tag,
+        value,
+        room,
+    } = to_write(book, number);
     let mut expected = Lent::new(room);
     let mut found = Lent::new(room);
     let refusal = writing::write_head(head, calendar, expected.lent());
     let answer = unsafe {
-        tembuyas_write_head(head.as_ptr(), head.len(), calendar.as_ptr(), calendar.len(), found.pointer(), room)
+        tembuyas_write_head(
+            head.as_ptr(),
+            head.len(),
+            calendar.as_ptr(),
+            calendar.len(),
+            found.pointer(),
+            room,
+        )
     };
     if (answer, &found.bytes) != (refusal, &expected.bytes) {
-        return Err(format!("writing a head answered {answer}, not {refusal}, or left other bytes"));
+        return Err(format!(
+            "writing a head answered {answer}, not {refusal}, or left other bytes"
+        ));
     }
     let mut expected = Lent::new(room);
     let mut found = Lent::new(room);
     let refusal = writing::write_point(tag, value, expected.lent());
-    let answer = unsafe { tembuyas_write_point(tag, value.as_ptr(), value.len(), found.pointer(), room) };
+    let answer =
+        unsafe { tembuyas_write_point(tag, value.as_ptr(), value.len(), found.pointer(), room) };
     if (answer, &found.bytes) != (refusal, &expected.bytes) {
-        return Err(format!("writing a point answered {answer}, not {refusal}, or left other bytes"));
+        return Err(format!(
+            "writing a point answered {answer}, not {refusal}, or left other bytes"
+        ));
     }
     Ok(())
 }
 
 fn main() {
-    let mut arguments = std::env::args().skip(1).map(|a| a.parse::<u64>().expect("a whole number"));
+    let mut arguments = std::env::args()
+        .skip(1)
+        .map(|a| a.parse::<u64>().expect("a whole number"));
     let count = arguments.next().unwrap_or(20_000);
     let first = arguments.next().unwrap_or(0);
     let mut seen: BTreeMap<u32, u64> = BTreeMap::new();

@@ -6,7 +6,7 @@ use native.Mathlib.Omega.{arith}
 use lib.ListN.{length, getD, set}
 use lib.Seq.{paste, paste-zero, paste-suc, length-paste}
 use borrow.Author.Needs.{needs}
-use Rattle.lines.proofs.Places.{pasted}
+use Rattle.numbers.proofs.Places.{pasted}
 use Rattle.lines.proofs.put.Statement.{statement}
 use Rattle.lines.proofs.put.Tie as tie
 

@@ -1,4 +1,4 @@
-use Rattle.lines.proofs.Places.{then}
+use Rattle.numbers.proofs.Places.{then}
 use borrow.Author.Needs.{needs}
 use Rattle.lines.proofs.put_line.Statement.{statement}
 use Rattle.lines.proofs.put_line.Tie as tie

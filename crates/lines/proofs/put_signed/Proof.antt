@@ -1,5 +1,5 @@
 use Rattle.lines.proofs.Decimals.{with-minus, without-minus}
-use Rattle.lines.proofs.Places.{then, named}
+use Rattle.numbers.proofs.Places.{then, named}
 use borrow.Author.Needs.{needs}
 use Rattle.lines.proofs.put_signed.Statement.{statement}
 use Rattle.lines.proofs.put_signed.Tie as tie

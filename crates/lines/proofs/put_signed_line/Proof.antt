@@ -1,7 +1,7 @@
 use mathlib.Core.Path.{ap}
 use mir.Facts.{toZ-ofZ}
 use Rattle.lines.specs.Numerals.{signed}
-use Rattle.lines.proofs.Places.{then, named}
+use Rattle.numbers.proofs.Places.{then, named}
 use borrow.Author.Needs.{needs}
 use Rattle.lines.proofs.put_signed_line.Statement.{statement}
 use Rattle.lines.proofs.put_signed_line.Tie as tie

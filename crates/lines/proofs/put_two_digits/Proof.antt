@@ -1,5 +1,5 @@
 use Rattle.lines.proofs.Decimals.{with-zero, without-zero}
-use Rattle.lines.proofs.Places.{then, named}
+use Rattle.numbers.proofs.Places.{then, named}
 use borrow.Author.Needs.{needs}
 use Rattle.lines.proofs.put_two_digits.Statement.{statement}
 use Rattle.lines.proofs.put_two_digits.Tie as tie

@@ -1,6 +1,6 @@
 use mathlib.Core.Path.{sym, ap}
 use Rattle.printing.specs.Printed.{bidLine}
-use Rattle.lines.proofs.Places.{named}
+use Rattle.numbers.proofs.Places.{named}
 use borrow.Author.Needs.{needs}
 use Rattle.printing.proofs.put_bid.Statement.{statement}
 use Rattle.printing.proofs.put_bid.Tie as tie

@@ -1,4 +1,4 @@
-use Rattle.lines.proofs.Places.{then}
+use Rattle.numbers.proofs.Places.{then}
 use borrow.Author.Needs.{needs}
 use Rattle.printing.proofs.put_date_line.Statement.{statement}
 use Rattle.printing.proofs.put_date_line.Tie as tie

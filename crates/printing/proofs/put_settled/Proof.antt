@@ -1,6 +1,6 @@
 use mathlib.Core.Path.{ap}
 use Rattle.printing.specs.Printed.{settledText}
-use Rattle.lines.proofs.Places.{then, named}
+use Rattle.numbers.proofs.Places.{then, named}
 use borrow.Author.Needs.{needs}
 use Rattle.printing.proofs.put_settled.Statement.{statement}
 use Rattle.printing.proofs.put_settled.Tie as tie

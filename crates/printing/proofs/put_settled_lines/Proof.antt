@@ -1,8 +1,8 @@
 use mathlib.Core.Path.{ap}
 use Rattle.integers.proofs.Machine.{word-back}
 use Rattle.lines.specs.Numerals.{signed}
-use Rattle.printing.specs.Printed.{line}
-use Rattle.lines.proofs.Places.{then, named}
+use Rattle.lines.specs.Line.{line}
+use Rattle.numbers.proofs.Places.{then, named}
 use borrow.Author.Needs.{needs}
 use Rattle.printing.proofs.put_settled_lines.Statement.{statement}
 use Rattle.printing.proofs.put_settled_lines.Tie as tie

@@ -8,9 +8,10 @@ use lib.Seq.{take-all}
 use borrow.Author.Needs.{needs}
 use Rattle.integers.proofs.Machine.{word-back}
 use Rattle.lines.specs.Numerals.{signed}
-use Rattle.lines.specs.Placing.{Placed}
-use Rattle.printing.specs.Printed.{line, slotLines}
-use Rattle.lines.proofs.Places.{then, named, nothing}
+use Rattle.numbers.specs.Placing.{Placed}
+use Rattle.lines.specs.Line.{line}
+use Rattle.printing.specs.Printed.{slotLines}
+use Rattle.numbers.proofs.Places.{then, named, nothing}
 use Rattle.printing.proofs.Slots.{slots-none, slot-placed}
 use Rattle.printing.proofs.put_slots.Statement.{statement}
 use Rattle.printing.proofs.put_slots.Tie as tie

@@ -1,7 +1,7 @@
 -- The one line of a refused book, or the lines of a settled one.
 use native.Mathlib.Omega.{arith}
-use Rattle.lines.proofs.Places.{named}
-use Rattle.printing.proofs.Fronts.{front-end, front-bytes, front-counts}
+use Rattle.numbers.proofs.Places.{named, front-end}
+use Rattle.lines.proofs.Fronts.{front-counts}
 use Rattle.printing.proofs.Texts.{text-refused, text-settled}
 use borrow.Author.Needs.{needs}
 use Rattle.printing.proofs.write_text.Statement.{statement}
@@ -20,7 +20,7 @@ returns : tie.Need-returns
 returns c =
     let s = c .before .before .before .before .before in
     let p = named (text-refused (s .args .ending) (c .before .before .before .if1 .taken)) (c .put-line .ensures .0) in
-    ((front-end p, search needs, front-bytes p), front-counts p)
+    ((front-end p, search needs, p .bytes), front-counts p)
 
 put-settled-requires : tie.Need-put-settled-requires
 put-settled-requires c κs = omega arith
@@ -29,7 +29,7 @@ returns-2 : tie.Need-returns-2
 returns-2 c =
     let s = c .before .before .before .before in
     let p = named (text-settled (s .args .ending) (c .before .before .if1 .left)) (c .put-settled .ensures) in
-    ((front-end p, omega (arith, p .within), front-bytes p), front-counts p)
+    ((front-end p, omega (arith, p .within), p .bytes), front-counts p)
 
 pub write-text-spec : {M : Type 1} → statement M
 write-text-spec =

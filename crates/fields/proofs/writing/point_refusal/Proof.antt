@@ -3,7 +3,8 @@ use mathlib.Core.Path.{sym, ap, _∙_}
 use mathlib.Core.Bool.{not}
 use native.Mathlib.Omega.{arith}
 use borrow.Author.Tests.{not-true, not-false}
-use Rattle.points.proofs.PointRows.{right-length, long-enough}
+use Rattle.points.proofs.Forms.{right-length, long-enough}
+use lib.ListN.{length}
 use Rattle.fields.proofs.WritingRows.{form-told, number-told, number-passed}
 use borrow.Author.Needs.{needs}
 use Rattle.fields.proofs.writing.point_refusal.Statement.{statement}
@@ -25,7 +26,7 @@ part-is-number-end : tie.Need-part-is-number-end
 part-is-number-end c =
     let s = c .before .before .before in
     let e = sym (c .before .form-refusal .ensures) ∙ c .if1 .left in
-    omega (arith, long-enough (s .args .tag) (s .args .value .now) e)
+    omega (arith, long-enough (s .args .tag) (length (s .args .value .now)) e)
 
 is-number-requires : tie.Need-is-number-requires
 is-number-requires c κs = search needs
@@ -41,7 +42,7 @@ value-refusal-requires : tie.Need-value-refusal-requires
 value-refusal-requires c κs =
     let f = c .before .before .before in
     let s = f .before .before .before in
-    right-length (s .args .tag) (s .args .value .now) (sym (f .before .form-refusal .ensures) ∙ f .if1 .left)
+    right-length (s .args .tag) (length (s .args .value .now)) (sym (f .before .form-refusal .ensures) ∙ f .if1 .left)
 
 returns-3 : tie.Need-returns-3
 returns-3 c =

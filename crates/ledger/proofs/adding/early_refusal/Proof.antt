@@ -1,14 +1,65 @@
--- Five groups of rows, one after the other.
-use mathlib.Core.Path.{sym, _∙_}
-use mathlib.Core.List.{_∷_, _++_}
+-- Five groups of rows, one after the other: each tells its number or is passed.
+use mathlib.Core.Path.{_≡_, sym, _∙_}
+use mathlib.Core.Bool.{Bool}
+use mathlib.Core.List.{List, _++_}
+use Prim.Native.Nat.{ℕ}
 use native.Mathlib.Omega.{arith}
-use Rattle.numbers.proofs.Refusals.{told, passed}
-use Rattle.ledger.specs.Steps.{earlyRefusal}
-use Rattle.points.proofs.PointRows.{formRows, valueRows, right-length, long-enough}
-use Rattle.ledger.proofs.EarlyRows.{standingRows, placesRow, numberRows, six-told, six-passed}
 use borrow.Author.Needs.{needs}
+use borrow.Author.Tests.{eq-eqb, ne-eqb}
+use lib.ListN.{length}
+use Rattle.numbers.specs.Refusals.{firstOf}
+use Rattle.numbers.proofs.Refusals.{told, passed}
+use Rattle.points.specs.Points.{numberOf, formRows, valueRows}
+use Rattle.points.proofs.Forms.{right-length, long-enough}
+use Rattle.ledger.specs.Operations.{stateRows, placesRow, numberRows, earlyRefusal}
 use Rattle.ledger.proofs.adding.early_refusal.Statement.{statement}
 use Rattle.ledger.proofs.adding.early_refusal.Tie as tie
+
+-- ---- the rows from a group on, and what is told of them
+
+module _ (s : tie.Start) where
+  abbrev forms : List (Bool × ℕ)
+  forms = formRows (s .args .tag) (length (s .args .value .now))
+
+  abbrev numbers : List (Bool × ℕ)
+  numbers = numberRows (s .args .state .points) (s .args .state .last) (numberOf (s .args .value .now))
+
+  abbrev values : List (Bool × ℕ)
+  values = valueRows (s .args .tag) (s .args .value .now)
+
+  abbrev from-places : List (Bool × ℕ)
+  from-places = placesRow (s .args .places) ++ numbers ++ values
+
+  abbrev Told : List (Bool × ℕ) → Type 0
+  Told rows = earlyRefusal (s .args .state) (s .args .tag) (s .args .value .now) (s .args .places) ≡ firstOf rows
+
+-- ---- behind a group that is passed the next one tells
+
+abbrev start-1 : tie.Else1 → tie.Start
+start-1 c = c .before .before .before
+
+abbrev start-2 : tie.Else2 → tie.Start
+start-2 c = start-1 (c .before .before)
+
+abbrev start-3 : tie.Else3 → tie.Start
+start-3 c = start-2 (c .before)
+
+forms-next : (c : tie.Else1) → Told (start-1 c) (forms (start-1 c) ++ from-places (start-1 c))
+unfolding earlyRefusal
+forms-next c =
+    let s = start-1 c in
+    passed (stateRows (s .args .state)) (forms s ++ from-places s) tt (sym (c .before .state-refusal .ensures) ∙ c .if1 .left)
+
+form-passed : (c : tie.Else2) → firstOf (forms (start-2 c)) ≡ 0
+form-passed c = sym (c .before .form-refusal .ensures) ∙ c .if2 .left
+
+places-next : (c : tie.Else2) → Told (start-2 c) (from-places (start-2 c))
+places-next c = forms-next (c .before .before) ∙ passed (forms (start-2 c)) (from-places (start-2 c)) tt (form-passed c)
+
+numbers-next : (c : tie.Else3) → Told (start-3 c) (numbers (start-3 c) ++ values (start-3 c))
+numbers-next c = places-next (c .before) ∙ simp (eq-eqb _ _ (c .if3 .left))
+
+-- ---- the needs
 
 state-refusal-requires : tie.Need-state-refusal-requires
 state-refusal-requires c κs = search needs
@@ -16,41 +67,22 @@ state-refusal-requires c κs = search needs
 returns : tie.Need-returns
 unfolding earlyRefusal
 returns c =
-    let s = c .before .before .before .args in
-    let st = s .state in
-    let v = s .value .now in
-    let a = standingRows st in
-    let b = formRows (s .tag) v in
-    let d = numberRows (st .points) (st .last) v in
-    let x = valueRows (s .tag) v in
-    let e = c .before .state-refusal .ensures in e ∙ sym (told a (b ++ placesRow (s .places) ∷ d ++ x) λ z. c .if1 .taken (e ∙ z))
+    let s = c .before .before .before in
+    let e = c .before .state-refusal .ensures in
+    e ∙ sym (told (stateRows (s .args .state)) (forms s ++ from-places s) λ z. c .if1 .taken (e ∙ z))
 
 form-refusal-requires : tie.Need-form-refusal-requires
 form-refusal-requires c κs = search needs
 
 returns-2 : tie.Need-returns-2
-unfolding earlyRefusal
 returns-2 c =
-    let s = c .before .before .before .before .before .args in
-    let st = s .state in
-    let v = s .value .now in
-    let a = standingRows st in
-    let b = formRows (s .tag) v in
-    let d = numberRows (st .points) (st .last) v in
-    let x = valueRows (s .tag) v in
-    let e = c .before .form-refusal .ensures in e ∙ sym (passed a (b ++ placesRow (s .places) ∷ d ++ x) tt (sym (c .before .before .before .state-refusal .ensures) ∙ c .before .before .if1 .left) ∙ told b (placesRow (s .places) ∷ d ++ x) λ z. c .if2 .taken (e ∙ z))
+    let at-forms = c .before .before in
+    let s = start-1 at-forms in
+    let e = c .before .form-refusal .ensures in
+    e ∙ sym (forms-next at-forms ∙ told (forms s) (from-places s) λ z. c .if2 .taken (e ∙ z))
 
 returns-3 : tie.Need-returns-3
-unfolding earlyRefusal
-returns-3 c =
-    let s = c .before .before .before .before .before .before .args in
-    let st = s .state in
-    let v = s .value .now in
-    let a = standingRows st in
-    let b = formRows (s .tag) v in
-    let d = numberRows (st .points) (st .last) v in
-    let x = valueRows (s .tag) v in
-    sym (passed a (b ++ placesRow (s .places) ∷ d ++ x) tt (sym (c .before .before .before .before .state-refusal .ensures) ∙ c .before .before .before .if1 .left) ∙ passed b (placesRow (s .places) ∷ d ++ x) tt (sym (c .before .before .form-refusal .ensures) ∙ c .before .if2 .left) ∙ six-told (s .places) (d ++ x) (c .if3 .taken))
+returns-3 c = sym (places-next (c .before) ∙ simp (ne-eqb _ _ (c .if3 .taken)))
 
 sub-number-refusal : tie.Need-sub-number-refusal
 sub-number-refusal c = search needs
@@ -59,37 +91,32 @@ part-number-refusal-start : tie.Need-part-number-refusal-start
 part-number-refusal-start c = search needs
 
 part-number-refusal-end : tie.Need-part-number-refusal-end
-part-number-refusal-end c = let s = c .before .before .before .before .before .before .before .args in omega (arith, long-enough (s .tag) (s .value .now) (sym (c .before .before .before .form-refusal .ensures) ∙ c .before .before .if2 .left))
+part-number-refusal-end c =
+    let s = start-3 (c .before) in
+    omega (arith, long-enough (s .args .tag) (length (s .args .value .now)) (form-passed (c .before .before)))
 
 number-refusal-requires : tie.Need-number-refusal-requires
 number-refusal-requires c κs = search needs
 
 returns-4 : tie.Need-returns-4
-unfolding earlyRefusal
 returns-4 c =
-    let s = c .before .before .before .before .before .before .before .before .before .before .args in
-    let st = s .state in
-    let v = s .value .now in
-    let a = standingRows st in
-    let b = formRows (s .tag) v in
-    let d = numberRows (st .points) (st .last) v in
-    let x = valueRows (s .tag) v in
-    let e = c .before .number-refusal .ensures in e ∙ sym (passed a (b ++ placesRow (s .places) ∷ d ++ x) tt (sym (c .before .before .before .before .before .before .before .before .state-refusal .ensures) ∙ c .before .before .before .before .before .before .before .if1 .left) ∙ passed b (placesRow (s .places) ∷ d ++ x) tt (sym (c .before .before .before .before .before .before .form-refusal .ensures) ∙ c .before .before .before .before .before .if2 .left) ∙ six-passed (s .places) (d ++ x) (c .before .before .before .before .if3 .left) ∙ told d x λ z. c .if4 .taken (e ∙ z))
+    let at-numbers = c .before .before .before .before in
+    let s = start-3 at-numbers in
+    let e = c .before .number-refusal .ensures in
+    e ∙ sym (numbers-next at-numbers ∙ told (numbers s) (values s) λ z. c .if4 .taken (e ∙ z))
 
 value-refusal-requires : tie.Need-value-refusal-requires
-value-refusal-requires c κs = let s = c .before .before .before .before .before .before .before .before .before .before .args in right-length (s .tag) (s .value .now) (sym (c .before .before .before .before .before .before .form-refusal .ensures) ∙ c .before .before .before .before .before .if2 .left)
+value-refusal-requires c κs =
+    let at-numbers = c .before .before .before .before in
+    let s = start-3 at-numbers in
+    right-length (s .args .tag) (length (s .args .value .now)) (form-passed (at-numbers .before))
 
 returns-5 : tie.Need-returns-5
-unfolding earlyRefusal
 returns-5 c =
-    let s = c .before .before .before .before .before .before .before .before .before .before .before .args in
-    let st = s .state in
-    let v = s .value .now in
-    let a = standingRows st in
-    let b = formRows (s .tag) v in
-    let d = numberRows (st .points) (st .last) v in
-    let x = valueRows (s .tag) v in
-    c .value-refusal .ensures ∙ sym (passed a (b ++ placesRow (s .places) ∷ d ++ x) tt (sym (c .before .before .before .before .before .before .before .before .before .state-refusal .ensures) ∙ c .before .before .before .before .before .before .before .before .if1 .left) ∙ passed b (placesRow (s .places) ∷ d ++ x) tt (sym (c .before .before .before .before .before .before .before .form-refusal .ensures) ∙ c .before .before .before .before .before .before .if2 .left) ∙ six-passed (s .places) (d ++ x) (c .before .before .before .before .before .if3 .left) ∙ passed d x tt (sym (c .before .before .number-refusal .ensures) ∙ c .before .if4 .left))
+    let at-numbers = c .before .before .before .before .before in
+    let s = start-3 at-numbers in
+    let e = sym (c .before .before .number-refusal .ensures) ∙ c .before .if4 .left in
+    c .value-refusal .ensures ∙ sym (numbers-next at-numbers ∙ passed (numbers s) (values s) tt e)
 
 pub early-refusal-spec : {M : Type 1} → statement M
 early-refusal-spec =
