@@ -35,7 +35,13 @@ results-of-requires c κs =
     let n = length (s .places .now) in
     let e = c .before .before .before .early-refusal .ensures in
     let z = sym e ∙ c .before .before .if1 .left in
-    (early-sound (s .state) (s .tag) v n z .content, early-known (s .state) (s .tag) v n z, early-length (s .state) (s .tag) v n z, early-fit (s .state) (s .tag) v n z, early-small (s .state) (s .tag) v n z)
+    record {
+      content = early-sound (s .state) (s .tag) v n z .content;
+      known = early-known (s .state) (s .tag) v n z;
+      size = early-length (s .state) (s .tag) v n z;
+      fit = early-fit (s .state) (s .tag) v n z;
+      small = early-small (s .state) (s .tag) v n z;
+    }
 
 returns-2 : tie.Need-returns-2
 returns-2 c =

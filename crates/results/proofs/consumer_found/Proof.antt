@@ -39,8 +39,7 @@ consumer-results-requires c κs =
     let at-test = c .before .before .before .before .before in
     let at-answer = at-test .before in
     let at-count = at-answer .before .before .before in
-    let s = at-count .before .before in
-    (
+    let s = at-count .before .before in (
       rw (c .before .loss-of .ensures) (lossy (s .pre)),
       baselines-small (s .pre) (at-count .day-count .ensures .0) (at-answer .consumer-baselines .ensures) (not-false _ (at-test .if1 .left)),
       rw (rest-of (s .args .value .now) 23) (tested (s .pre)),
