@@ -28,12 +28,14 @@ FACTS = [
     (r"`omega`: the goal does not follow.*fails, at .*", "`omega`: the goal does not follow, and fails at values that it names"),
     (r"`omega`: .*", "`omega`: the goal does not follow"),
     (r"`search`: .*", "`search`: no proof"),
-    (r".* differ only where one has `([^`]{1,40})` \(expected\) and the other has `([^`]{1,40})` .*", r"`\1` expected, `\2` found"),
     (r"give a proof of that as the last argument.*", "the equation does not hold after rewriting"),
     (r"list the missing equation.*", "`cc`: the equation does not follow"),
     (r".*: no occurrence of the path's .*|`simp`: no equation of the list .*", "the equation does not speak of what is due"),
-    (r".*the two (types|sides|indices) .*|expected type (?!`tie\.Need-).*|`borrow\..*|`omega` does not read .*", "the fact that is due and the one that is proved differ"),
+    (r".*the two (types|sides|indices) .*|expected type .*|`borrow\..*|`omega` does not read .*", "the fact that is due and the one that is proved differ"),
 ]
+DIFFER = re.compile(
+    r"differ (?:only )?where one has `([^`|]+)` \(expected\)(?:, right after `[^`]*`,?)? and the other has `([^`|]+)` \(found\)"
+    r"|the two types are `([^`|]+)` \(expected\) and `([^`|]+)` \(found\)")
 NO_FACT = "no fact: "
 
 
@@ -56,10 +58,22 @@ def function_at(folder, name, line, column):
     return name
 
 
+def difference(message):
+    """The last place where what is expected and what is found are said to differ, if it is short; names without their module."""
+    pairs = [[re.sub(r"[^\s(]+\.(?=[^\s.])", "", side) for side in found if side] for found in DIFFER.findall(message)]
+    pairs = [pair for pair in pairs if max(map(len, pair)) <= 40]
+    return "`{}` expected, `{}` found".format(*pairs[-1]) if pairs else None
+
+
 def shortened(file, message):
+    # A definition or a contract that is refused, or a need in another's place.
+    if file.startswith(("specs/", "src/")) or message.startswith("expected type `tie.Need-"):
+        return NO_FACT + message[:80]
+    if difference(message):
+        return difference(message)
     for pattern, words in FACTS:
         found = re.match(pattern, message)
-        if found and not file.startswith(("specs/", "src/")):
+        if found:
             return found.expand(words) if "\\" in words else words
     return NO_FACT + message[:80]
 
@@ -69,7 +83,8 @@ def first_error(edit):
     folder = LOGS / edit
     if not (folder / ".log").exists():
         return None
-    for line in (folder / ".log").read_text().split("\n"):
+    # A message goes on in lines that are set in.
+    for line in (folder / ".log").read_text().replace("\n  ", " ").split("\n"):
         line = re.sub(rf"\S*/{edit}/(?=(src|specs|proofs)/)", "", line)
         found = re.match(r"note: ([^:\s]+):(\d+):(\d+): it is not proved that .*\((`[^`]+`)\)", line)
         if found:

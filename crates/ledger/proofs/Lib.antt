@@ -2,6 +2,5 @@ pub mod Moving
 pub mod Taking
 pub mod Sound
 pub mod Totals
-pub mod TotalBounds
 pub mod AddSteps
 pub mod Within

@@ -17,7 +17,7 @@ use Rattle.ledger.specs.Operations.{addingRefusal}
 use Rattle.ledger.specs.Calls.{Call, adding, closing, replies, stateAfter, pointsTaken}
 use Rattle.ledger.specs.Totals.{slotTotal, Holds, TotalsFromReadings}
 use Rattle.ledger.specs.declared.State.{State}
-use Rattle.ledger.proofs.Sound.{open-refusal, open-good, open-bad, add-good, add-bad, accepted-takes, nothing-taken}
+use Rattle.ledger.proofs.Sound.{open-refusal, open-good, open-bad, add-good, add-bad, accepted-given, nothing-taken}
 use Rattle.ledger.proofs.Taking.{six-results}
 use Rattle.ledger.proofs.Moving.{Moved, moved-none, moved-one, taken-six}
 
@@ -32,7 +32,7 @@ moved (adding tag value places ∷ calls) state six = go (ℕ-discrete (addingRe
         → Moved state (stateAfter state (adding tag value places ∷ calls))
         (pointsTaken (adding tag value places ∷ calls) (replies state (adding tag value places ∷ calls)))
     go (yes e) rest =
-        let found = six-results (accepted-takes state tag value places e) in
+        let found = six-results (accepted-given state tag value places e) (state .marks) in
         rw (add-good state tag value places e)
         (moved-one state _ (record { tag = tag; value = value }) _ six found (rest _ (taken-six state tag value (numberOf value) six found)))
     go (no n) rest = rw (add-bad state tag value places n, ne-eqb _ 0 n) (rest state six)

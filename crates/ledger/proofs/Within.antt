@@ -7,7 +7,7 @@ use Rattle.heads.specs.Limits.{mostResult}
 use Rattle.heads.proofs.Opening.{opens}
 use Rattle.ledger.specs.Operations.{addingRefusal, resultsOf}
 use Rattle.ledger.specs.Within.{ResultsWithin}
-use Rattle.ledger.proofs.Sound.{add-refusal, accepted-sound, accepted-takes}
+use Rattle.ledger.proofs.Sound.{add-refusal, accepted-sound, accepted-given}
 use Rattle.ledger.proofs.Taking.{six-results, result-small}
 use Rattle.ledger.proofs.AddSteps.{places-good}
 
@@ -16,7 +16,7 @@ results-within state tag value places e =
     let n = length places in
     let z : addingRefusal state tag value n ≡ 0 = sym (add-refusal state tag value n) ∙ e in
     let found = resultsOf state tag value in
-    let t = accepted-takes state tag value n z in
-    let small = result-small t (opens (state .head) (state .marks) (accepted-sound state tag value n z .content)) in
+    let g = accepted-given state tag value n z in
+    let small = result-small g (state .marks) (opens (state .head) (state .marks) (accepted-sound state tag value n z .content)) in
     rw (places-good state tag value places z)
-    record { six = six-results t; each = λ i. omega (arith, small i); together = omega (arith, six-results t, sumℤ-below mostResult found small) }
+    record { six = six-results g (state .marks); each = λ i. omega (arith, small i); together = omega (arith, six-results g (state .marks), sumℤ-below mostResult found small) }

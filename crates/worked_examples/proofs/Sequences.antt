@@ -14,8 +14,8 @@ use Rattle.figures.specs.SlotTotals.{plus}
 use Rattle.ledger.specs.States.{isUnsound, taken}
 use Rattle.figures.specs.Figures.{figuresOf}
 use Rattle.ledger.specs.Operations.{openOf, pointRefusal, addingRefusal, addOf, closingRefusal, closeOf}
-use Rattle.account.specs.Account.{opening, Said, saysOf, account, partsOfkW}
-use Rattle.ledger.specs.Calls.{Call, adding, closing, refused, accepted, closed, replies, program}
+use Rattle.account.specs.Account.{opening, saysOf, account}
+use Rattle.ledger.specs.Calls.{replies, program}
 use Rattle.worked_examples.specs.Examples.{highVoltage}
 use Rattle.worked_examples.specs.Sequences.{PartsOfkW, WithRemainder, WithoutRemainder, WorkedSequences}
 
