@@ -2,13 +2,13 @@
 use mathlib.Core.Path.{_≡_}
 use mathlib.Core.Bool.{Bool, true, false, cond}
 use mathlib.Core.List.{List}
-use Prim.Native.Nat.{ℕ, zero, suc, _*_, _-_, _≤_}
+use Prim.Native.Nat.{ℕ, zero, suc, _*_, _≤_}
 use native.Mathlib.Omega.{arith}
 use lib.ListN.{length, replicate}
 use Rattle.numbers.specs.Lists.{run}
 use Rattle.numbers.proofs.Filling.{run-length}
 use Rattle.calendar.specs.Eligible.{ofDay, isEligible, eligibleDays}
-use Rattle.readings.specs.Readings.{mostReading, firstLarge, windowSums, Back}
+use Rattle.readings.specs.Readings.{mostReading, readingCount, firstLarge, windowSums, lastWindow, earlierSlot, Back}
 use Rattle.readings.proofs.Bounds.{slot-sums-bound, earlier-use-bound}
 use Rattle.baseline.specs.Choosing.{isFew}
 use Rattle.baseline.specs.Baseline.{chosenDays, daySums, baselineOn}
@@ -32,12 +32,12 @@ module _ (test : ℕ) (marks readings : List ℕ) (s : ℕ) where
   chosen-days-four = chosen-length (ofDay (windowSums readings s)) (eligible-rising test marks)
 
   -- the sums over them, and the baseline
-  module _ (fits : firstLarge readings 1488 ≡ 1488) (h : s ≤ 42) where
+  module _ (fits : firstLarge readings readingCount ≡ readingCount) (h : s ≤ lastWindow) where
     pub chosen-sums-bound : Sums (daySums readings (chosenDays test marks readings s) s)
     unfolding daySums
     chosen-sums-bound =
         let within = slot-sums-bound readings fits _ chosen-days-four chosen-days-back in
-        record { window = within s h; earlier = within (s - 10) (omega arith) }
+        record { window = within s h; earlier = within (earlierSlot s) (omega arith) }
 
     pub baseline-bound : (j : ℕ) → baselineOn readings (chosenDays test marks readings s) s j ≤ 48 * mostReading
     baseline-bound j = omega (arith, chosen-sums-bound .window j, earlier-use-bound readings fits s h)

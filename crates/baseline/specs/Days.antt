@@ -7,7 +7,7 @@ use Prim.Native.Nat.{ℕ, suc, _<_, _≤_}
 use lib.ListN.{length, getD, take, replicate}
 use Rattle.numbers.specs.Lists.{run, sum}
 use Rattle.calendar.specs.Eligible.{ofDay}
-use Rattle.readings.specs.Readings.{firstLarge}
+use Rattle.readings.specs.Readings.{readingCount, readingsLength, firstLarge, lastWindow, earlierBy}
 use Rattle.baseline.specs.Choosing.{round, isFew}
 use Rattle.baseline.specs.Baseline.{baselineOn}
 use Rattle.baseline.specs.declared.Baselines.{Baselines}
@@ -31,10 +31,10 @@ pub record Sums (sums : List (List ℕ)) : Type 0 where
 
 -- a consumer's readings, none above the limit, and the first slot of a window
 pub record Tested (readings : List ℕ) (slot : ℕ) : Type 0 where
-  pub size : length readings ≡ 5952
-  pub small : firstLarge readings 1488 ≡ 1488
-  pub first : 10 ≤ slot
-  pub last : slot ≤ 42
+  pub size : length readings ≡ readingsLength
+  pub small : firstLarge readings readingCount ≡ readingCount
+  pub first : earlierBy ≤ slot
+  pub last : slot ≤ lastWindow
 
 -- the days with a flag, of flags that begin with day k back
 unfoldable pub daysFrom : ℕ → List Bool → List ℕ

@@ -9,6 +9,7 @@ ghost use Rattle.readings.specs.Readings.{Back};
 ghost use Rattle.baseline.specs.Choosing.{standing, lowest, chosen};
 ghost use Rattle.baseline.specs.Baseline.{daySums};
 ghost use Rattle.baseline.specs.Days.{daysFrom, Rising, Holds, Five, Kept, choice, WindowSums, Tested};
+use readings::EARLIER_BY;
 use readings::slot_sums;
 
 // The four days, nearest first, or four zeros where there are not enough.
@@ -163,6 +164,6 @@ pub fn day_sums(readings: &[u8], days: [usize; 4], slot: usize) -> [[u64; 6]; 2]
     ensures { λ r. ⌜ r ≡ daySums (now (readings .entry)) days slot ⌝ }
 {
     let window = slot_sums(readings, days, slot);
-    let earlier = slot_sums(readings, days, slot - 10);
+    let earlier = slot_sums(readings, days, slot - EARLIER_BY);
     [window, earlier]
 }

@@ -21,7 +21,7 @@ const LEAST_CONTRACT: u32 = 1000;
 
 const MOST_CONTRACT: u32 = 10000000;
 
-const MOST_POINTS: u32 = 10000;
+pub const MOST_POINTS: u32 = 10000;
 
 // The values of a head (document 01, 'The test book').
 pub struct Head {
