@@ -1,17 +1,18 @@
 -- How far back the chosen days are. Assumes nothing.
+use mathlib.Core.Path.{_≡_}
 use mathlib.Core.Bool.{Bool, true, false, cond}
 use mathlib.Core.List.{List}
-use Prim.Native.Nat.{ℕ, zero, suc, _-_, _≤_}
+use Prim.Native.Nat.{ℕ, zero, suc, _*_, _≤_}
 use native.Mathlib.Omega.{arith}
-use lib.Dec.{ltb}
 use lib.ListN.{length, replicate}
 use Rattle.numbers.specs.Lists.{run}
 use Rattle.numbers.proofs.Filling.{run-length}
 use Rattle.calendar.specs.Eligible.{ofDay, isEligible, eligibleDays}
-use Rattle.readings.specs.Readings.{windowSums, Back}
-use Rattle.baseline.specs.Baseline.{chosenDays}
-use Rattle.baseline.specs.Days.{Rising, choice}
-use Rattle.baseline.specs.declared.choosing.Chosen.{Chosen}
+use Rattle.readings.specs.Readings.{mostReading, readingCount, firstLarge, windowSums, lastWindow, earlierSlot, Back}
+use Rattle.readings.proofs.Bounds.{slot-sums-bound, earlier-use-bound}
+use Rattle.baseline.specs.Choosing.{isFew}
+use Rattle.baseline.specs.Baseline.{chosenDays, daySums, baselineOn}
+use Rattle.baseline.specs.Days.{Rising, choice, Sums}
 use Rattle.baseline.proofs.Rising.{rising-far}
 use Rattle.baseline.proofs.Flags.{flags-rising, flags-filter}
 use Rattle.baseline.proofs.Lowest.{chosen-rising, chosen-length}
@@ -30,6 +31,17 @@ module _ (test : ℕ) (marks readings : List ℕ) (s : ℕ) where
   pub chosen-days-four : length (chosenDays test marks readings s) ≤ 4
   chosen-days-four = chosen-length (ofDay (windowSums readings s)) (eligible-rising test marks)
 
+  -- the sums over them, and the baseline
+  module _ (fits : firstLarge readings readingCount ≡ readingCount) (h : s ≤ lastWindow) where
+    pub chosen-sums-bound : Sums (daySums readings (chosenDays test marks readings s) s)
+    unfolding daySums
+    chosen-sums-bound =
+        let within = slot-sums-bound readings fits _ chosen-days-four chosen-days-back in
+        record { window = within s h; earlier = within (earlierSlot s) (omega arith) }
+
+    pub baseline-bound : (j : ℕ) → baselineOn readings (chosenDays test marks readings s) s j ≤ 48 * mostReading
+    baseline-bound j = omega (arith, chosen-sums-bound .window j, earlier-use-bound readings fits s h)
+
 zeros-back : (n : ℕ) → Back (replicate n 0)
 zeros-back zero i = omega arith
 zeros-back (suc n) zero = omega arith
@@ -37,8 +49,8 @@ zeros-back (suc n) (suc i) = zeros-back n i
 
 pub choice-back : (days : List ℕ) → Back days → Back (choice days .days)
 unfolding choice
-choice-back days h = go (ltb (length days) 4)
+choice-back days h = go (isFew days)
   where
-    go : (t : Bool) → Back (cond {A = Chosen} t (record { enough = false; days = replicate 4 0 }) (record { enough = true; days = days }) .days)
+    go : (t : Bool) → Back (cond t (replicate 4 0) days)
     go true = zeros-back 4
     go false = h

@@ -1,18 +1,32 @@
 -- The answer on the days that stand. Assumes nothing.
 use mathlib.Core.Path.{_≡_, refl, sym, ap, _∙_}
-use mathlib.Core.Bool.{true, false}
+use mathlib.Core.Bool.{true, false, not}
 use mathlib.Core.List.{List, [], _∷_}
 use Prim.Native.Nat.{ℕ, _<_, _≤_}
 use native.Mathlib.Omega.{arith}
 use lib.ListN.{length, getD, take, drop, replicate}
 use lib.Seq.{take-all}
-use borrow.Author.Tests.{lt-ltb, le-ltb}
-use Rattle.baseline.specs.Choosing.{standing, lowest, used, chosen}
+use borrow.Author.Tests.{lt-ltb, le-ltb, not-true, not-false}
+use Rattle.baseline.specs.Choosing.{standing, lowest, used, isFew, chosen}
 use Rattle.baseline.specs.Days.{Rising, Holds, choice}
+use Rattle.baseline.specs.declared.choosing.Chosen.{Chosen}
 use Rattle.baseline.specs.declared.choosing.Round.{Round}
 use Rattle.baseline.proofs.Rising.{without}
 use Rattle.baseline.proofs.Rounds.{standing-rising}
 use Rattle.baseline.proofs.Lowest.{used-five, used-fewer, four-left}
+
+-- the answer's days are told by its flag
+module _ (days : List ℕ) (answer : Chosen) (e : answer ≡ choice days) where
+  flag : answer .enough ≡ not (isFew days)
+  unfolding choice
+  flag = ap (λ a. a .enough) e
+
+  pub few-days : answer .enough ≡ false → isFew days ≡ true
+  few-days f = not-false _ (sym flag ∙ f)
+
+  pub four-days : answer .enough ≡ true → (isFew days ≡ false) × (answer .days ≡ days)
+  unfolding choice
+  four-days f = let q = not-true _ (sym flag ∙ f) in (q, ap (λ a. a .days) e ∙ rw q)
 
 few-chosen : (days : List ℕ) → length days < 4 → choice days ≡ record { enough = false; days = replicate 4 0 }
 unfolding choice

@@ -1,5 +1,5 @@
 -- Choosing four days (document 01). A day is its number back; lists of days have the nearest first; `w k` is the window sum of day k.
-use mathlib.Core.Bool.{cond, not}
+use mathlib.Core.Bool.{Bool, cond, not}
 use mathlib.Core.List.{List, [], _∷_, _++_, map}
 use Prim.Native.Nat.{ℕ, zero, suc, _*_}
 use lib.Dec.{leb, ltb, eqb}
@@ -32,6 +32,10 @@ lowest w low (k ∷ days) = lowest w (cond (leb (w k) (w low)) k low) days
 unfoldable pub used : (ℕ → ℕ) → List ℕ → List ℕ
 used w [] = []
 used w (k ∷ days) = cond (eqb (length (k ∷ days)) 5) (filter (λ other. not (eqb other (lowest w k days))) (k ∷ days)) (k ∷ days)
+
+-- 'Fewer: refusal 18.'
+abbrev pub isFew : List ℕ → Bool
+isFew days = ltb (length days) 4
 
 -- The chosen days, of the eligible ones: four, or fewer (refusal 18).
 unfoldable pub chosen : (ℕ → ℕ) → List ℕ → List ℕ

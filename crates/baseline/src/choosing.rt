@@ -1,13 +1,16 @@
-// Choosing four days. A day is its number back; the window sum of day k stands at place k - 1 of `sums`.
+// Choosing four days, and the sums over them. A day is its number back; the window sum of day k stands at place k - 1 of `sums`.
 ghost use mathlib.Core.Path.{_≡_};
 ghost use mathlib.Core.Bool.{not};
-ghost use Prim.Native.Nat.{ℕ, _≤_};
 ghost use lib.Dec.{eqb};
 ghost use lib.ListN.{length, getD, drop};
 ghost use Rattle.numbers.specs.Lists.{filter};
 ghost use Rattle.calendar.specs.Eligible.{ofDay};
-ghost use Rattle.baseline.specs.Choosing.{round, standing, lowest, chosen};
-ghost use Rattle.baseline.specs.Days.{daysFrom, Rising, Holds, roundOf, choice};
+ghost use Rattle.readings.specs.Readings.{Back};
+ghost use Rattle.baseline.specs.Choosing.{standing, lowest, chosen};
+ghost use Rattle.baseline.specs.Baseline.{daySums};
+ghost use Rattle.baseline.specs.Days.{daysFrom, Rising, Holds, Five, Kept, choice, WindowSums, Tested};
+use readings::EARLIER_BY;
+use readings::slot_sums;
 
 // The four days, nearest first, or four zeros where there are not enough.
 pub struct Chosen {
@@ -22,16 +25,16 @@ struct Round {
     all: u64,
 }
 
-// How many days are in hand, and their window sums together.
-struct Hand {
+// How many days a round has, and their window sums together.
+struct CountAndSum {
     count: usize,
     all: u64,
 }
 
 // Of five days, those that a round does not drop come to the front. All its tests use the same five sums together, `all`.
-fn keep(days: &mut [usize], sums: &[u64], five: Hand) -> Hand
-    requires { ⌜ (length (now sums) ≡ 30) × ((k : ℕ) → getD (now sums) k 0 ≤ 6_000_000_000) × Rising 0 30 (now days) × Holds (ofDay (now sums)) (now days) (roundOf (now days) five) ⌝ }
-    ensures { λ r. ⌜ Holds (ofDay (now (sums .entry))) (round (ofDay (now (sums .entry))) (now (days .entry))) (roundOf (now (days .exit)) r) ⌝ }
+fn keep(days: &mut [usize], sums: &[u64], five: CountAndSum) -> CountAndSum
+    requires { ⌜ Five (now sums) (now days) five ⌝ }
+    ensures { λ r. ⌜ Kept (now (sums .entry)) (now (days .entry)) (now (days .exit)) r ⌝ }
 {
     let all = five.all;
     let taken = five.count;
@@ -49,12 +52,12 @@ fn keep(days: &mut [usize], sums: &[u64], five: Hand) -> Hand
         }
         i += 1;
     }
-    Hand { count, all: left }
+    CountAndSum { count, all: left }
 }
 
 // Rounds over the thirty days, until one drops no day or the days run out. A round goes on with the days that the one before it left.
 fn walk(eligible: [bool; 30], sums: &[u64]) -> Round
-    requires { ⌜ (length (now sums) ≡ 30) × ((k : ℕ) → getD (now sums) k 0 ≤ 6_000_000_000) ⌝ }
+    requires { ⌜ WindowSums (now sums) ⌝ }
     ensures { λ r. ⌜ Holds (ofDay (now (sums .entry))) (standing (ofDay (now (sums .entry))) (daysFrom 1 eligible)) r ⌝ }
 {
     let mut days = [0usize; 5];
@@ -75,7 +78,7 @@ fn walk(eligible: [bool; 30], sums: &[u64]) -> Round
             }
             k += 1;
         }
-        let five = Hand { count, all };
+        let five = CountAndSum { count, all };
         let left = keep(&mut days, sums, five);
         stood = left.count;
         if stood == 5 {
@@ -92,7 +95,7 @@ fn walk(eligible: [bool; 30], sums: &[u64]) -> Round
 
 // The day with the lowest window sum; among equals the farthest.
 fn lowest_of(days: [usize; 5], sums: &[u64]) -> usize
-    requires { ⌜ (length (now sums) ≡ 30) × Rising 0 30 days ⌝ }
+    requires { ⌜ WindowSums (now sums) × Rising 0 30 days ⌝ }
     ensures { λ r. ⌜ r ≡ lowest (ofDay (now (sums .entry))) (getD days 0 0) (drop 1 days) ⌝ }
 {
     let mut low = days[0];
@@ -128,7 +131,7 @@ fn without(days: [usize; 5], low: usize) -> [usize; 4]
 
 // Of the eligible days the four that are used.
 pub fn choose(eligible: [bool; 30], sums: &[u64]) -> Chosen
-    requires { ⌜ (length (now sums) ≡ 30) × ((k : ℕ) → getD (now sums) k 0 ≤ 6_000_000_000) ⌝ }
+    requires { ⌜ WindowSums (now sums) ⌝ }
     ensures { λ r. ⌜ r ≡ choice (chosen (ofDay (now (sums .entry))) (daysFrom 1 eligible)) ⌝ }
 {
     let stood = walk(eligible, sums);
@@ -153,4 +156,14 @@ pub fn choose(eligible: [bool; 30], sums: &[u64]) -> Chosen
         enough: true,
         days: four,
     }
+}
+
+// Where the choice ends: six window sums and six earlier sums, each over the four days.
+pub fn day_sums(readings: &[u8], days: [usize; 4], slot: usize) -> [[u64; 6]; 2]
+    requires { ⌜ Tested (now readings) slot × Back days ⌝ }
+    ensures { λ r. ⌜ r ≡ daySums (now (readings .entry)) days slot ⌝ }
+{
+    let window = slot_sums(readings, days, slot);
+    let earlier = slot_sums(readings, days, slot - EARLIER_BY);
+    [window, earlier]
 }

@@ -1,23 +1,31 @@
-// The days and the baseline of a consumer.
+// The baseline of a consumer: the choice of days ends in two arrays of sums, and from these the baseline is worked out.
 ghost use mathlib.Core.Path.{_≡_};
-ghost use mathlib.Core.List.{[]};
-ghost use Prim.Native.Nat.{ℕ, _<_, _≤_};
-ghost use lib.ListN.{length, getD};
-ghost use Rattle.numbers.specs.Lists.{sum};
-ghost use Rattle.readings.specs.Readings.{firstLarge, Back};
+ghost use Prim.Native.Nat.{_+_, _*_, _-_, _≤_};
+ghost use Rattle.numbers.specs.Lists.{run, sum};
+ghost use Rattle.readings.specs.Readings.{Back};
 ghost use Rattle.baseline.specs.Baseline.{chosenDays, baseline};
-ghost use Rattle.baseline.specs.Days.{choice};
+ghost use Rattle.baseline.specs.Days.{AtMost, Sums, Tested, choice, baselinesOn};
 
 pub mod choosing;
 
 use calendar::eligible_days;
 use choosing::Chosen;
 use choosing::choose;
+use choosing::day_sums;
+use readings::earlier_use;
 use readings::window_sums;
 
+// The four days of a consumer, nearest first, and its baseline in each window slot, in twenty-fourths of a Wh; zeros where there are
+// not enough days.
+pub struct Baselines {
+    pub enough: bool,
+    pub days: [usize; 4],
+    pub slots: [u64; 6],
+}
+
 // The four days of a consumer, for the count of the test day.
-pub fn chosen_days(test: u32, marks: [u8; 30], readings: &[u8], slot: usize) -> Chosen
-    requires { ⌜ (30 ≤ test) × (length (now readings) ≡ 5952) × (slot ≤ 42) × (firstLarge (now readings) 1488 ≡ 1488) ⌝ }
+fn chosen_days(test: u32, marks: [u8; 30], readings: &[u8], slot: usize) -> Chosen
+    requires { ⌜ (30 ≤ test) × Tested (now readings) slot ⌝ }
     ensures { λ r. ⌜ (r ≡ choice (chosenDays test marks (now (readings .entry)) slot)) × Back (r .days) ⌝ }
 {
     let eligible = eligible_days(test, marks);
@@ -27,23 +35,64 @@ pub fn chosen_days(test: u32, marks: [u8; 30], readings: &[u8], slot: usize) -> 
 
 // Six sums together.
 fn sum_of_six(sums: [u64; 6]) -> u64
-    requires { ⌜ ((k : ℕ) → getD sums k 0 ≤ 4_000_000_000) ⌝ }
+    requires { ⌜ AtMost 4_000_000_000 sums ⌝ }
     ensures { λ r. ⌜ (r ≡ sum sums) × (r ≤ 24_000_000_000) ⌝ }
 {
     sums[0] + sums[1] + sums[2] + sums[3] + sums[4] + sums[5]
 }
 
-// The baseline of window slot j in twenty-fourths of a Wh, from the window sums and the earlier sums over the four days and from the
-// test day's earlier use; 0 where that is negative.
-pub fn baseline_of(sums: [[u64; 6]; 2], earlier: u64, j: usize) -> u64
-    requires { ⌜ (j < 6) × ((i k : ℕ) → getD (getD sums i []) k 0 ≤ 4_000_000_000) × (earlier ≤ 6_000_000_000) ⌝ }
-    ensures { λ r. ⌜ (r ≡ baseline sums earlier j) × (r ≤ 48_000_000_000) ⌝ }
+// One slot: six times its four-day sum and four times the test day's earlier use, less the earlier sums together; 0 where that is
+// negative.
+fn baseline_of(sum: u64, earlier: u64, less: u64) -> u64
+    requires { ⌜ (sum ≤ 4_000_000_000) × (earlier ≤ 6_000_000_000) ⌝ }
+    ensures { λ r. ⌜ r ≡ 6 * sum + 4 * earlier - less ⌝ }
 {
-    let earlier_sums = sums[1];
-    let less = sum_of_six(earlier_sums);
-    let gross = 6 * sums[0][j] + 4 * earlier;
+    let gross = 6 * sum + 4 * earlier;
     if gross < less {
         return 0;
     }
     gross - less
+}
+
+// The baseline in each window slot, from the window sums and the earlier sums over the four days and from the test day's earlier use.
+fn baselines_of(sums: [[u64; 6]; 2], earlier: u64) -> [u64; 6]
+    requires { ⌜ Sums sums × (earlier ≤ 6_000_000_000) ⌝ }
+    ensures { λ r. ⌜ r ≡ run (baseline sums earlier) 0 6 ⌝ }
+{
+    let window = sums[0];
+    let earlier_sums = sums[1];
+    let less = sum_of_six(earlier_sums);
+    let mut slots = [0u64; 6];
+    let mut j: usize = 0;
+    while j < 6 {
+        slots[j] = baseline_of(window[j], earlier, less);
+        j += 1;
+    }
+    slots
+}
+
+// The days of a consumer and its baseline on them. Here the choice of days hands two arrays of six sums to the baseline, which sees
+// nothing else of the days back.
+pub fn consumer_baselines(test: u32, marks: [u8; 30], readings: &[u8], slot: usize) -> Baselines
+    requires { ⌜ (30 ≤ test) × Tested (now readings) slot ⌝ }
+    ensures { λ r. ⌜ r ≡ baselinesOn (chosenDays test marks (now (readings .entry)) slot) (now (readings .entry)) slot ⌝ }
+{
+    let chosen = chosen_days(test, marks, readings, slot);
+    let enough = chosen.enough;
+    if !enough {
+        return Baselines {
+            enough: false,
+            days: [0; 4],
+            slots: [0; 6],
+        };
+    }
+    let days = chosen.days;
+    let sums = day_sums(readings, days, slot);
+    let earlier = earlier_use(readings, slot);
+    let slots = baselines_of(sums, earlier);
+    Baselines {
+        enough: true,
+        days,
+        slots,
+    }
 }

@@ -1,13 +1,13 @@
 -- How large sums are of readings none of which is too large. Assumes nothing.
 use mathlib.Core.Path.{_≡_}
-use mathlib.Core.List.{List, [], map}
-use Prim.Native.Nat.{ℕ, zero, suc, _+_, _*_, _-_, _<_, _≤_}
+use mathlib.Core.List.{List, map}
+use Prim.Native.Nat.{ℕ, _+_, _*_, _-_, _<_, _≤_}
 use native.Mathlib.Omega.{arith}
 use lib.ListN.{length, getD}
 use Rattle.numbers.specs.Lists.{sum}
 use Rattle.numbers.specs.Slots.{slotsOfDay, daysBack, windowSlots}
 use Rattle.readings.specs.Readings.{mostReading, readingCount, firstLarge, reading, windowSum, windowSums, lastWindow, earlierSlot}
-use Rattle.readings.specs.Readings.{slotSum, slotSums, daySums, earlierUse, Back}
+use Rattle.readings.specs.Readings.{slotSum, slotSums, earlierUse, Back}
 use Rattle.readings.proofs.Sums.{run-within, sum-within, days-within}
 use Rattle.readings.proofs.Large.{none-large}
 
@@ -39,13 +39,7 @@ module _ (readings : List ℕ) (fits : firstLarge readings readingCount ≡ read
     slot-sum-bound slot h =
         omega (arith, days-within (λ k. reading readings k slot) mostReading days (λ i l. reading-bound (getD days i 0) slot (back i) h))
 
-    slot-sums-bound : (i : ℕ) → i ≤ lastWindow → (k : ℕ) → getD (slotSums readings days i) k 0 ≤ mostSlotSum
+    pub slot-sums-bound : (i : ℕ) → i ≤ lastWindow → (k : ℕ) → getD (slotSums readings days i) k 0 ≤ mostSlotSum
     unfolding slotSums
     slot-sums-bound i h =
         run-within (slotSum readings days) mostSlotSum i windowSlots (λ j l. slot-sum-bound (i + j) (omega arith))
-
-    pub day-sums-bound : (s : ℕ) → s ≤ lastWindow → (i k : ℕ) → getD (getD (daySums readings days s) i []) k 0 ≤ mostSlotSum
-    unfolding daySums
-    day-sums-bound s h zero k = slot-sums-bound s h k
-    day-sums-bound s h (suc zero) k = slot-sums-bound (earlierSlot s) (omega arith) k
-    day-sums-bound s h (suc (suc i)) k = omega arith

@@ -1,6 +1,6 @@
 -- A consumer's readings (document 01, 'The test book' and 'Days'): 1,488 of four bytes, the test day's 48, then days 1 to 30 back.
 use mathlib.Core.Bool.{cond}
-use mathlib.Core.List.{List, [], _∷_, map}
+use mathlib.Core.List.{List, map}
 use Prim.Native.Nat.{ℕ, zero, suc, _+_, _*_, _-_, _≤_}
 use lib.Dec.{ltb}
 use lib.ListN.{drop, getD}
@@ -58,10 +58,6 @@ slotSum readings days slot = sum (map (λ k. reading readings k slot) days)
 
 unfoldable pub slotSums : List ℕ → List ℕ → ℕ → List ℕ
 slotSums readings days i = run (slotSum readings days) i windowSlots
-
--- 'six window sums and six earlier sums, each over the four chosen days'
-unfoldable pub daySums : List ℕ → List ℕ → ℕ → List (List ℕ)
-daySums readings days s = slotSums readings days s ∷ slotSums readings days (earlierSlot s) ∷ []
 
 -- 'the test day's six earlier readings together'
 unfoldable pub earlierUse : List ℕ → ℕ → ℕ

@@ -6,7 +6,7 @@ ghost use Rattle.numbers.specs.Lists.{run, sum};
 ghost use Rattle.numbers.specs.Slots.{slotsOfDay, daysBack, windowSlots};
 ghost use Rattle.numbers.specs.Words.{word32};
 ghost use Rattle.readings.specs.Readings.{mostReading, readingLength, readingsLength, lastWindow, earlierBy, firstLarge, reading};
-ghost use Rattle.readings.specs.Readings.{windowSum, windowSums, slotSum, slotSums, daySums, earlierUse, Back};
+ghost use Rattle.readings.specs.Readings.{windowSum, windowSums, slotSum, slotSums, earlierUse, Back};
 ghost use Rattle.readings.specs.Packed.{isSmall, Passes};
 use numbers::DAYS_BACK;
 use numbers::SLOTS_OF_DAY;
@@ -20,7 +20,7 @@ const MOST_READING: u32 = 1_000_000_000;
 pub const READING_LENGTH: usize = 4;
 
 // The earlier slots begin so many slots before the window.
-const EARLIER_BY: usize = 10;
+pub const EARLIER_BY: usize = 10;
 
 // The first of n readings that is too large, from reading `start` on, or n.
 fn first_large_from(readings: &[u8], start: usize, n: usize) -> usize
@@ -201,7 +201,7 @@ fn slot_sum(readings: &[u8], days: [usize; 4], slot: usize) -> u64
 }
 
 // The six slots from one on, each over four days.
-fn slot_sums(readings: &[u8], days: [usize; 4], slot: usize) -> [u64; WINDOW_SLOTS]
+pub fn slot_sums(readings: &[u8], days: [usize; 4], slot: usize) -> [u64; WINDOW_SLOTS]
     requires { ⌜ (length (now readings) ≡ readingsLength) × (slot ≤ lastWindow) × Back days ⌝ }
     ensures { λ r. ⌜ r ≡ slotSums (now (readings .entry)) days slot ⌝ }
 {
@@ -212,14 +212,4 @@ fn slot_sums(readings: &[u8], days: [usize; 4], slot: usize) -> [u64; WINDOW_SLO
         j += 1;
     }
     sums
-}
-
-// Six window sums and six earlier sums, each over four days.
-pub fn day_sums(readings: &[u8], days: [usize; 4], slot: usize) -> [[u64; WINDOW_SLOTS]; 2]
-    requires { ⌜ (length (now readings) ≡ readingsLength) × (earlierBy ≤ slot) × (slot ≤ lastWindow) × Back days ⌝ }
-    ensures { λ r. ⌜ r ≡ daySums (now (readings .entry)) days slot ⌝ }
-{
-    let window = slot_sums(readings, days, slot);
-    let earlier = slot_sums(readings, days, slot - EARLIER_BY);
-    [window, earlier]
 }

@@ -11,21 +11,20 @@ use lib.Signed.{_≤ℤ_, _<ℤ_}
 use lib.ListN.{length, getD}
 use mir.Facts.{no-ltb}
 use borrow.Author.Tests.{ltb-false, le-ltb}
-use Rattle.numbers.specs.Lists.{any}
+use Rattle.numbers.specs.Lists.{run, any}
 use Rattle.numbers.proofs.Filling.{run-length, any-none}
 use Rattle.integers.specs.Integers.{floorDiv}
 use Rattle.integers.proofs.Differences.{by⊖, ⊖s}
 use Rattle.integers.proofs.Floors.{natAbs-floor, floor-low, floor-high}
-use Rattle.readings.specs.Readings.{mostReading, firstLarge, daySums, earlierUse}
-use Rattle.baseline.specs.Baseline.{chosenDays, baseline}
+use Rattle.readings.specs.Readings.{mostReading, firstLarge}
 use Rattle.readings.proofs.Large.{none-large, first-bound}
-use Rattle.readings.proofs.Bounds.{reading-bound, earlier-use-bound, day-sums-bound}
-use Rattle.baseline.proofs.Bounds.{chosen-days-back, chosen-days-four}
+use Rattle.readings.proofs.Bounds.{reading-bound}
+use Rattle.baseline.proofs.Bounds.{baseline-bound}
 use Rattle.heads.specs.Limits.{mostLoss, mostBaseline, mostResult}
 use Rattle.heads.specs.Heads.{testDay}
 use Rattle.heads.proofs.Opening.{Opens}
 use Rattle.points.specs.Points.{Kind, consumer, generator, unknown, isUnknown, isUnfit, hasLarge, readingsOf, readingCount, baselineOf}
-use Rattle.results.specs.SlotResults.{lossOf, consumerQuotient, generatorQuotient, quotients, rounded}
+use Rattle.results.specs.SlotResults.{Quotient, lossOf, consumerQuotient, generatorQuotient, quotients, rounded}
 use Rattle.heads.specs.declared.Head.{Head}
 use Rattle.numbers.proofs.Tests.{no-false, noneOf, none-run}
 
@@ -45,16 +44,6 @@ isBeyond most z = ltb most (natAbs z)
 -- none of some numbers is beyond it
 pub none-beyond : (most : ℕ) (zs : List ℤ) → T (noneOf (isBeyond most) zs) → (i : ℕ) → natAbs (getD zs i (pos 0)) ≤ most
 none-beyond most zs t i = ltb-false _ _ (any-none (isBeyond most) (pos 0) (le-ltb most 0 (omega arith)) zs (no-false _ t) i)
-
-baseline-small : (readings : List ℕ) → firstLarge readings 1488 ≡ 1488 → (test : ℕ) (marks : List ℕ) (s j : ℕ) → s ≤ 34
-    → baseline (daySums readings (chosenDays test marks readings s) s) (earlierUse readings s) j ≤ 48 * mostReading
-baseline-small readings fits test marks s j h =
-    let days = chosenDays test marks readings s in
-    omega (
-      arith,
-      day-sums-bound readings fits days (chosen-days-four test marks readings s) (chosen-days-back test marks readings s) s (omega arith) 0 j,
-      earlier-use-bound readings fits s (omega arith),
-    )
 
 -- a slot result lies between −2,000,000,000 and 4,000,000,000: b the baseline in twenty-fourths, u the use, p = 10,000 − loss
 slot-bound : (b u p : ℕ) → b ≤ 48_000_000_000 → u ≤ 1_000_000_000 → 5_000 ≤ p
@@ -80,21 +69,30 @@ generator-small kW metered hk hm = le-trans (natAbs-floor (pos metered -ℤ pos 
     go : (a b : ℕ) → a ≤ 1_000_000_000 → b ≤ 500_000_000 → natAbs (pos a -ℤ pos b) ≤ 4_000_000_000
     go a b ha hb = simp ⊖s (omega arith)
 
--- A line for each kind of point.
-pub small-by : (h : Head) (marks : List ℕ) → Opens h → (kind : Kind) (value : List ℕ) → isUnfit kind value ≡ false → hasLarge kind value ≡ false
-    → T (noneOf (λ q. isBeyond mostResult (rounded q)) (quotients h marks kind value))
-unfolding quotients any
-small-by h marks o consumer value fit small = none-run (λ q. isBeyond mostResult (rounded q)) _ 0 6 λ j l.
-    let tested = all-tested consumer value small in
-    no-ltb (consumer-small (lossOf h value) _ _ (o .losses _)
-    (baseline-small (readingsOf consumer value) tested (testDay h) marks (h .slot) (0 + j) (o .last-slot))
-    (reading-bound (readingsOf consumer value) tested 0 (h .slot + (0 + j)) (omega arith) (omega arith)))
-small-by h marks o generator value fit small = none-run (λ q. isBeyond mostResult (rounded q)) _ 0 6 λ j l.
-    no-ltb (generator-small (baselineOf value) _ (ltb-false _ _ fit) (none-large (readingsOf generator value) 6 (0 + j) (all-tested generator value small) (omega arith)))
-small-by h marks o unknown value fit small = tt
+-- ---- by kind of point: a line for each
 
-pub six-by : (h : Head) (marks : List ℕ) (kind : Kind) (value : List ℕ) → isUnknown kind ≡ false → length (quotients h marks kind value) ≡ 6
-unfolding quotients
-six-by h marks consumer value e = run-length _ 0 6
-six-by h marks generator value e = run-length _ 0 6
-six-by h marks unknown value e = absurd (true≢false e)
+-- six quotients, each small once it is rounded
+none-of-six : (q : ℕ → Quotient) → ((j : ℕ) → j < 6 → natAbs (rounded (q (0 + j))) ≤ mostResult)
+    → T (noneOf (λ q. isBeyond mostResult (rounded q)) (run q 0 6))
+none-of-six q h = none-run (λ q. isBeyond mostResult (rounded q)) q 0 6 λ j l. no-ltb (h j l)
+
+module _ (h : Head) (marks : List ℕ) where
+  pub small-by : Opens h → (kind : Kind) (value : List ℕ) → isUnfit kind value ≡ false → hasLarge kind value ≡ false
+      → T (noneOf (λ q. isBeyond mostResult (rounded q)) (quotients h marks kind value))
+  unfolding quotients any
+  small-by o consumer value fit small = none-of-six _ λ j l.
+      let readings = readingsOf consumer value in
+      let tested = all-tested consumer value small in
+      consumer-small (lossOf h value) _ _ (o .losses _)
+      (baseline-bound (testDay h) marks readings (h .slot) tested (omega (arith, o .last-slot)) (0 + j))
+      (reading-bound readings tested 0 (h .slot + (0 + j)) (omega arith) (omega arith))
+  small-by o generator value fit small = none-of-six _ λ j l.
+      generator-small (baselineOf value) _ (ltb-false _ _ fit)
+      (none-large (readingsOf generator value) 6 (0 + j) (all-tested generator value small) (omega arith))
+  small-by o unknown value fit small = tt
+
+  pub six-by : (kind : Kind) (value : List ℕ) → isUnknown kind ≡ false → length (quotients h marks kind value) ≡ 6
+  unfolding quotients
+  six-by consumer value e = run-length _ 0 6
+  six-by generator value e = run-length _ 0 6
+  six-by unknown value e = absurd (true≢false e)

@@ -1,4 +1,4 @@
 pub mod SlotResults
-pub mod ConsumerDays
 pub mod Bounds
+pub mod Consumers
 pub mod SlotExamples

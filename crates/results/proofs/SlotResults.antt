@@ -8,12 +8,11 @@ use lib.IntN.{ℤ, pos, negsuc, _-ℤ_, _*ℤ_}
 use lib.ListN.{drop}
 use lib.Seq.{getD-drop}
 use Rattle.numbers.specs.Lists.{run}
-use Rattle.integers.specs.Integers.{floorDiv}
 use Rattle.numbers.specs.Words.{word32}
+use Rattle.integers.specs.Integers.{floorDiv}
 use Rattle.integers.proofs.Differences.{⊖s}
-use Rattle.points.specs.Points.{generator, baselineOf}
-use Rattle.results.specs.SlotResults.{generatorQuotient, quotients, rounded, results}
-use Rattle.heads.specs.declared.Head.{Head}
+use Rattle.points.specs.Points.{baselineOf}
+use Rattle.results.specs.SlotResults.{generatorQuotient, generatorQuotients, rounded}
 
 -- multiplied first and subtracted then, or the other way round
 pub scaled : (b u : ℕ) → pos (10_000 * b) -ℤ pos (240_000 * u) ≡ (pos b -ℤ pos (24 * u)) *ℤ pos 10_000
@@ -23,20 +22,20 @@ pub floor-one : (z : ℤ) → floorDiv z 1 ≡ z
 floor-one (pos n) = ap pos (omega arith)
 floor-one (negsuc n) = ap negsuc (omega arith)
 
-pub map-run {ℓ κ} : {A : Type ℓ} {B : Type κ} (f : A → B) (g : ℕ → A) (i n : ℕ) → map f (run g i n) ≡ run (λ j. f (g j)) i n
+map-run {ℓ κ} : {A : Type ℓ} {B : Type κ} (f : A → B) (g : ℕ → A) (i n : ℕ) → map f (run g i n) ≡ run (λ j. f (g j)) i n
 unfolding run
 map-run f g i zero = refl
 map-run f g i (suc n) = rw (map-run f g (suc i) n)
 
+-- ---- a generator, slot by slot
+
 word32-drop : (v : List ℕ) (n at : ℕ) → word32 (drop n v) at ≡ word32 v (n + at)
 word32-drop v n at = simp (getD-drop, add-assoc)
 
--- the results of a generator's value, slot by slot
 abbrev pub generatorAt : List ℕ → ℕ → ℤ
 generatorAt v j = rounded (generatorQuotient (baselineOf v) (word32 v (26 + j * 4)))
 
-pub generator-results : (h : Head) (marks v : List ℕ) → results h marks generator v ≡ run (generatorAt v) 0 6
-unfolding quotients
-generator-results h marks v =
+pub generator-results : (v : List ℕ) → map rounded (generatorQuotients v) ≡ run (generatorAt v) 0 6
+generator-results v =
     map-run rounded (λ j. generatorQuotient (baselineOf v) (word32 (drop 26 v) (j * 4))) 0 6
     ∙ simp (word32-drop v 26)

@@ -3,14 +3,14 @@
 use mathlib.Core.Bool.{Bool, false}
 use mathlib.Core.List.{List, [], map}
 use Prim.Native.Nat.{ℕ, _+_, _*_, _-_}
-use lib.Dec.{ltb}
 use lib.IntN.{ℤ, pos, _-ℤ_, _*ℤ_}
-use lib.ListN.{length, getD}
+use lib.ListN.{getD}
 use Rattle.numbers.specs.Lists.{run}
 use Rattle.numbers.specs.Words.{word32}
 use Rattle.integers.specs.Integers.{floorDiv}
-use Rattle.readings.specs.Readings.{reading, daySums, earlierUse}
-use Rattle.baseline.specs.Baseline.{chosenDays, baseline}
+use Rattle.readings.specs.Readings.{reading, earlierUse}
+use Rattle.baseline.specs.Choosing.{isFew}
+use Rattle.baseline.specs.Baseline.{chosenDays, daySums, baseline}
 use Rattle.heads.specs.Heads.{testDay}
 use Rattle.heads.specs.declared.Head.{Head}
 use Rattle.points.specs.Points.{Kind, consumer, generator, unknown, classOf, baselineOf, readingsOf}
@@ -21,7 +21,7 @@ daysOf h marks value = chosenDays (testDay h) marks (readingsOf consumer value) 
 
 -- 18: 'fewer than four days'
 abbrev pub lacksDays : Head → List ℕ → Kind → List ℕ → Bool
-lacksDays h marks consumer value = ltb (length (daysOf h marks value)) 4
+lacksDays h marks consumer value = isFew (daysOf h marks value)
 lacksDays h marks generator value = false
 lacksDays h marks unknown value = false
 
@@ -42,15 +42,22 @@ generatorQuotient kW metered = record { num = pos metered -ℤ pos (500 * kW); d
 abbrev pub lossOf : Head → List ℕ → ℕ
 lossOf h value = getD (h .losses) (classOf value - 1) 0
 
--- the six slot results of a point before they are rounded
-unfoldable pub quotients : Head → List ℕ → Kind → List ℕ → List Quotient
-quotients h marks consumer value =
+-- the six slot results of a consumer before they are rounded, on the days chosen
+abbrev pub consumerQuotients : Head → List ℕ → List ℕ → List Quotient
+consumerQuotients h marks value =
     let readings = readingsOf consumer value in
     let sums = daySums readings (daysOf h marks value) (h .slot) in
     let earlier = earlierUse readings (h .slot) in
     run (λ j. consumerQuotient (lossOf h value) (baseline sums earlier j) (reading readings 0 (h .slot + j))) 0 6
-quotients h marks generator value =
-    run (λ j. generatorQuotient (baselineOf value) (word32 (readingsOf generator value) (j * 4))) 0 6
+
+-- those of a generator
+abbrev pub generatorQuotients : List ℕ → List Quotient
+generatorQuotients value = run (λ j. generatorQuotient (baselineOf value) (word32 (readingsOf generator value) (j * 4))) 0 6
+
+-- those of a point
+unfoldable pub quotients : Head → List ℕ → Kind → List ℕ → List Quotient
+quotients h marks consumer value = consumerQuotients h marks value
+quotients h marks generator value = generatorQuotients value
 quotients h marks unknown value = []
 
 -- 'rounded toward minus infinity'

@@ -1,18 +1,16 @@
-// Slot results.
+// Slot results, by kind of point: the six results of a value that passed its tests.
 ghost use mathlib.Core.Path.{_≡_};
-ghost use mathlib.Core.Bool.{false};
-ghost use mathlib.Core.List.{List};
-ghost use Prim.Native.Nat.{ℕ, _≤_};
+ghost use Prim.Native.Nat.{_≤_};
 ghost use lib.ListN.{length};
 ghost use Rattle.numbers.specs.Lists.{run};
-ghost use Rattle.readings.specs.Readings.{firstLarge, Back};
+ghost use Rattle.baseline.specs.Days.{AtMost, Tested};
 ghost use Rattle.heads.specs.Limits.{mostBaseline};
-ghost use Rattle.points.specs.Points.{consumer, generator, kindOf, isUnknown, sizeOf, isUnfit, hasLarge, baselineOf};
-ghost use Rattle.results.specs.SlotResults.{consumerQuotient, generatorQuotient, rounded, results};
-ghost use Rattle.heads.specs.Heads.{contentRefusal};
-ghost use Rattle.results.specs.Steps.{consumerSlot, foundOf};
-ghost use Rattle.heads.specs.declared.Head.{Head};
+ghost use Rattle.points.specs.Points.{consumer, kindOf, baselineOf};
+ghost use Rattle.results.specs.SlotResults.{consumerQuotient, generatorQuotient, generatorQuotients, rounded};
+ghost use Rattle.results.specs.Steps.{Passed, consumerSlot, allFound, foundOf};
 use heads::Head;
+use points::CONSUMER;
+use points::GENERATOR;
 
 // The six results, unless there are not four days.
 pub struct Found {
@@ -37,28 +35,53 @@ fn generator_result(baseline: u32, metered: u32) -> i64
     integers::minus(metered as u64, 500 * (baseline as u64))
 }
 
-// The six results of a consumer, on its four days.
-fn consumer_results(loss: u16, readings: &[u8], days: [usize; 4], slot: usize) -> [i64; 6]
-    requires { ⌜ (loss ≤ 5000) × (length (now readings) ≡ 5952) × Back days × (10 ≤ slot) × (slot ≤ 42) × (firstLarge (now readings) 1488 ≡ 1488) ⌝ }
-    ensures { λ r. ⌜ r ≡ run (consumerSlot loss (now (readings .entry)) days slot) 0 6 ⌝ }
+// The six results of a consumer, from its baseline in the window slots.
+fn consumer_results(loss: u16, slots: [u64; 6], readings: &[u8], slot: usize) -> [i64; 6]
+    requires { ⌜ (loss ≤ 5000) × AtMost 48_000_000_000 slots × Tested (now readings) slot ⌝ }
+    ensures { λ r. ⌜ r ≡ run (consumerSlot loss slots (now (readings .entry)) slot) 0 6 ⌝ }
 {
-    let sums = readings::day_sums(readings, days, slot);
-    let earlier = readings::earlier_use(readings, slot);
     let mut found = [0i64; 6];
     let mut j: usize = 0;
     while j < 6 {
-        let base = baseline::baseline_of(sums, earlier, j);
         let used = numbers::word32_at(readings, (slot + j) * 4);
-        found[j] = consumer_result(loss, base, used);
+        found[j] = consumer_result(loss, slots[j], used);
         j += 1;
     }
     found
 }
 
-// The six results of a generator's value, whatever the head and the calendar.
-fn generator_results(value: &[u8]) -> [i64; 6]
+// A consumer: its days and the baseline on them, then the results.
+fn consumer_found(head: Head, marks: [u8; 30], value: &[u8]) -> Found
+    requires { ⌜ Passed head marks consumer (now value) ⌝ }
+    ensures { λ r. ⌜ r ≡ foundOf head marks consumer (now (value .entry)) ⌝ }
+{
+    let year = head.year;
+    let month = head.month;
+    let day = head.day;
+    let test = calendar::day_count(year, month, day);
+    let slot = head.slot as usize;
+    let on_days = baseline::consumer_baselines(test, marks, &value[23..], slot);
+    let enough = on_days.enough;
+    if !enough {
+        return Found {
+            enough: false,
+            found: [0; 6],
+        };
+    }
+    let slots = on_days.slots;
+    let losses = head.losses;
+    let loss = points::loss_of(losses, value[22]);
+    let found = consumer_results(loss, slots, &value[23..], slot);
+    Found {
+        enough: true,
+        found,
+    }
+}
+
+// A generator: whatever the head and the calendar.
+fn generator_found(value: &[u8]) -> Found
     requires { ⌜ (length (now value) ≡ 50) × (baselineOf (now value) ≤ mostBaseline) ⌝ }
-    ensures { λ r. ⌜ ((h : Head) (marks : List ℕ) → r ≡ results h marks generator (now (value .entry))) ⌝ }
+    ensures { λ r. ⌜ r ≡ allFound (generatorQuotients (now (value .entry))) ⌝ }
 {
     let baseline = numbers::word32_at(value, 22);
     let mut found = [0i64; 6];
@@ -68,48 +91,23 @@ fn generator_results(value: &[u8]) -> [i64; 6]
         found[j] = generator_result(baseline, metered);
         j += 1;
     }
-    found
-}
-
-// A consumer's value that passed every test but that of its days.
-fn consumer_found(head: Head, marks: [u8; 30], value: &[u8]) -> Found
-    requires { ⌜ (contentRefusal head marks ≡ 0) × (length (now value) ≡ 5975) × (isUnfit consumer (now value) ≡ false) × (hasLarge consumer (now value) ≡ false) ⌝ }
-    ensures { λ r. ⌜ r ≡ foundOf head marks consumer (now (value .entry)) ⌝ }
-{
-    let year = head.year;
-    let month = head.month;
-    let day = head.day;
-    let test = calendar::day_count(year, month, day);
-    let slot = head.slot as usize;
-    let chosen = baseline::chosen_days(test, marks, &value[23..], slot);
-    let enough = chosen.enough;
-    if !enough {
-        return Found {
-            enough: false,
-            found: [0; 6],
-        };
-    }
-    let days = chosen.days;
-    let losses = head.losses;
-    let loss = points::loss_of(losses, value[22]);
-    let found = consumer_results(loss, &value[23..], days, slot);
     Found {
         enough: true,
         found,
     }
 }
 
-// A value that passed every test but that of its days.
+// The results of a point's value: one function for each kind of point.
 pub fn results_of(head: Head, marks: [u8; 30], tag: u8, value: &[u8]) -> Found
-    requires { ⌜ (contentRefusal head marks ≡ 0) × (isUnknown (kindOf tag) ≡ false) × (length (now value) ≡ sizeOf (kindOf tag)) × (isUnfit (kindOf tag) (now value) ≡ false) × (hasLarge (kindOf tag) (now value) ≡ false) ⌝ }
+    requires { ⌜ Passed head marks (kindOf tag) (now value) ⌝ }
     ensures { λ r. ⌜ r ≡ foundOf head marks (kindOf tag) (now (value .entry)) ⌝ }
 {
-    if tag == points::CONSUMER {
-        return consumer_found(head, marks, value);
-    }
-    let found = generator_results(value);
-    Found {
-        enough: true,
-        found,
+    match tag {
+        CONSUMER => consumer_found(head, marks, value),
+        GENERATOR => generator_found(value),
+        _ => Found {
+            enough: false,
+            found: [0; 6],
+        },
     }
 }

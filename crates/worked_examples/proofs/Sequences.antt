@@ -5,7 +5,8 @@ use Rattle.integers.specs.Integers.{sumℤ}
 use Rattle.numbers.specs.Words.{bytesOf}
 use Rattle.numbers.specs.PointNumbers.{digits, isNumber, below}
 use Rattle.calendar.specs.Dates.{isDate, dayCount}
-use Rattle.readings.specs.Readings.{firstLarge, windowSums, slotSums, daySums, earlierUse}
+use Rattle.readings.specs.Readings.{firstLarge, windowSums, slotSums, earlierUse}
+use Rattle.baseline.specs.Baseline.{daySums}
 use Rattle.baseline.specs.Choosing.{walk, lowest, used, chosen}
 use Rattle.heads.specs.Heads.{headOf, contentRefusal, openingRefusal}
 use Rattle.results.specs.SlotResults.{quotients}

@@ -10,9 +10,9 @@ use Rattle.numbers.specs.Lists.{run, gather}
 use Rattle.numbers.specs.Words.{bytesOf}
 use Rattle.calendar.specs.Dates.{dayCount}
 use Rattle.calendar.specs.Eligible.{ofDay, eligibleDays}
-use Rattle.readings.specs.Readings.{daySums, earlierUse}
+use Rattle.readings.specs.Readings.{earlierUse}
 use Rattle.baseline.specs.Choosing.{standing, chosen}
-use Rattle.baseline.specs.Baseline.{baseline}
+use Rattle.baseline.specs.Baseline.{baseline, daySums}
 use Rattle.heads.specs.Heads.{headOf}
 use Rattle.points.specs.Points.{consumer, readingsOf}
 use Rattle.results.specs.SlotResults.{daysOf}

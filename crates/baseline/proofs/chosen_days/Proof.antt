@@ -23,7 +23,7 @@ slice-aggregate-choose c = search needs
 choose-requires : tie.Need-choose-requires
 choose-requires c κs =
     let s = c .before .before .before .before in
-    (search needs, rw (c .before .window-sums .ensures) (window-sums-bound _ (s .pre .3) _ (omega arith)))
+    record { thirty = search needs; small = rw (c .before .window-sums .ensures) (window-sums-bound _ (s .pre .1 .small) _ (omega arith)) }
 
 returns : tie.Need-returns
 returns c =

@@ -57,7 +57,10 @@ returns c =
     refused s _ (early-told (s .args .state) (s .args .tag) (s .args .value .now) (length (s .args .places .now)) (λ z. c .if1 .taken (e ∙ z)) ∙ sym e) (c .if1 .taken)
 
 results-of-requires : tie.Need-results-of-requires
-results-of-requires c κs = let f = facts (c .before .before) in (f .sound .content, f .given .known, f .given .size, f .given .fit, f .given .small)
+results-of-requires c κs =
+    let f = facts (c .before .before) in
+    let g = f .given in
+    record { content = f .sound .content; known = g .known; size = g .size; fit = g .fit; small = g .small }
 
 returns-2 : tie.Need-returns-2
 returns-2 c =

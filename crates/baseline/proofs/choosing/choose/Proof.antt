@@ -34,7 +34,7 @@ lowest-of-requires : tie.Need-lowest-of-requires
 lowest-of-requires c κs =
     let s = c .before .before .before .before .before in
     let stood = c .before .before .before .walk .ensures in
-    (s .pre .0, five-rising (daysFrom 1 (s .args .eligible)) stood (omega arith) (flags-rising (s .args .eligible) (omega arith)))
+    (s .pre, five-rising (daysFrom 1 (s .args .eligible)) stood (omega arith) (flags-rising (s .args .eligible) (omega arith)))
 
 without-requires : tie.Need-without-requires
 without-requires c κs =

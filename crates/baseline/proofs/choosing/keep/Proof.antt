@@ -41,7 +41,7 @@ abbrev μ-loop : tie.MeasureT-loop
 
 loop-holds : tie.Need-loop-holds Inv-loop μ-loop
 unfolding filter sum
-loop-holds c = (search needs, search needs, search needs, refl, refl, refl, c .pre .3 .all ∙ sym (zero-add _))
+loop-holds c = (search needs, search needs, search needs, refl, refl, refl, c .pre .held .all ∙ sym (zero-add _))
 
 mul-day : tie.Need-mul-day Inv-loop μ-loop
 mul-day c = search needs
@@ -52,7 +52,7 @@ in-range : (c : lts.In-loop reads.Pre reads.Post Inv-loop μ-loop)
 in-range c =
     let l = c .before .loop in
     let s = c .before .before in
-    rw (same-here (l .days) (s .args .days .now) (l .i) (l .inv .3)) (rising-at (l .i) (omega arith) (s .pre .2))
+    rw (same-here (l .days) (s .args .days .now) (l .i) (l .inv .3)) (rising-at (l .i) (omega arith) (s .pre .rising))
 
 slice-read-day : tie.Need-slice-read-day Inv-loop μ-loop
 slice-read-day c = omega arith
@@ -69,7 +69,7 @@ shared-slice-read-sum c = omega (arith, in-range (c .before .before))
 mul-if1 : tie.Need-mul-if1 Inv-loop μ-loop
 mul-if1 c =
     let l = c .before .before .before .loop in
-    omega (arith, c .before .before .before .before .pre .1 (getD (l .days) (l .i) 0 - 1))
+    omega (arith, c .before .before .before .before .pre .windows .small (getD (l .days) (l .i) 0 - 1))
 
 mul-days : tie.Need-mul-days Inv-loop μ-loop
 mul-days c = search needs
@@ -139,7 +139,7 @@ returns c =
     let e = take-all (l .i) (s .args .days .now) (omega arith) in
     let sums = s .args .sums .now in
     let total = rw (e, sum-drop-end (ofDay sums) (s .args .days .now) (l .i) (omega arith), add-zero) at (l .inv .6) in
-    rw (← s .pre .3 .all) (record { places = l .inv .2; count = rw e at (l .inv .4); held = rw e at (l .inv .5); all = total })
+    rw (← s .pre .held .all) (record { places = l .inv .2; count = rw e at (l .inv .4); held = rw e at (l .inv .5); all = total })
 
 pub keep-spec : {M : Type 1} → statement M
 keep-spec =

@@ -52,7 +52,7 @@ shared-slice-read-all c = omega arith
 add-all : tie.Need-add-all Inv-loop μ-loop Inv-walk μ-walk
 add-all c =
     let l = c .before .before .before .before .loop in
-    let sums-fit = c .before .before .before .before .before .before .before .pre .1 in
+    let sums-fit = c .before .before .before .before .before .before .before .pre .small in
     omega (arith, bounded (l .inv .2) 6_000_000_000 sums-fit, sums-fit (l .k))
 
 add-k : tie.Need-add-k Inv-loop μ-loop Inv-walk μ-walk
@@ -76,7 +76,8 @@ keep-requires : tie.Need-keep-requires Inv-loop μ-loop Inv-walk μ-walk
 keep-requires c κs =
     let s = c .before .before .before .before .before in
     let l = c .before .before .loop in
-    (s .pre .0, s .pre .1, rising-farther (l .inv .0) (five-rising (l .inv .2) (omega arith)), five-held (l .inv .2) (omega arith))
+    let full : 5 ≤ l .count = omega arith in
+    record { windows = s .pre; rising = rising-farther (l .inv .0) (five-rising (l .inv .2) full); held = five-held (l .inv .2) full }
 
 walk-less : tie.Need-walk-less Inv-loop μ-loop Inv-walk μ-walk
 walk-less c = omega arith

@@ -1,8 +1,8 @@
 -- `day_sums` meets its contract. Assumes nothing.
 use borrow.Author.Needs.{needs}
-use Rattle.readings.specs.Readings.{daySums}
-use Rattle.readings.proofs.day_sums.Statement.{statement}
-use Rattle.readings.proofs.day_sums.Tie as tie
+use Rattle.baseline.specs.Baseline.{daySums}
+use Rattle.baseline.proofs.choosing.day_sums.Statement.{statement}
+use Rattle.baseline.proofs.choosing.day_sums.Tie as tie
 
 returns : tie.Need-returns
 unfolding daySums

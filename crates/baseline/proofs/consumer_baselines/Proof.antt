@@ -1,0 +1,47 @@
+-- Too few days, or the baseline on the chosen ones.
+use mathlib.Core.Path.{sym}
+use native.Mathlib.Omega.{arith}
+use borrow.Author.Needs.{needs}
+use borrow.Author.Tests.{not-true, not-false}
+use Rattle.readings.proofs.Bounds.{earlier-use-bound}
+use Rattle.baseline.specs.Baseline.{chosenDays}
+use Rattle.baseline.specs.Days.{baselinesOn}
+use Rattle.baseline.proofs.Bounds.{chosen-sums-bound}
+use Rattle.baseline.proofs.Choices.{few-days, four-days}
+use Rattle.baseline.proofs.consumer_baselines.Statement.{statement}
+use Rattle.baseline.proofs.consumer_baselines.Tie as tie
+
+returns : tie.Need-returns
+unfolding baselinesOn
+returns c =
+    let at-chosen = c .before in
+    let a = at-chosen .before .before .args in
+    let days = chosenDays (a .test) (a .marks) (a .readings .now) (a .slot) in
+    rw (few-days days _ (at-chosen .chosen-days .ensures .0) (not-true _ (c .if1 .taken)))
+
+baselines-of-requires : tie.Need-baselines-of-requires
+baselines-of-requires c κs =
+    let at-test = c .before .before .before in
+    let at-entry = at-test .before .before .before in
+    let a = at-entry .args in
+    let tested = at-entry .pre .1 in
+    let days = chosenDays (a .test) (a .marks) (a .readings .now) (a .slot) in
+    let four = four-days days _ (at-test .before .chosen-days .ensures .0) (not-false _ (at-test .if1 .left)) in (
+      rw (c .before .day-sums .ensures, four .1) (chosen-sums-bound (a .test) (a .marks) _ (a .slot) (tested .small) (tested .last)),
+      rw (c .earlier-use .ensures) (earlier-use-bound _ (tested .small) _ (tested .last)),
+    )
+
+returns-2 : tie.Need-returns-2
+unfolding baselinesOn
+returns-2 c =
+    let at-sums = c .before .before in
+    let at-test = at-sums .before .before in
+    let a = at-test .before .before .before .args in
+    let days = chosenDays (a .test) (a .marks) (a .readings .now) (a .slot) in
+    let four = four-days days _ (at-test .before .chosen-days .ensures .0) (not-false _ (at-test .if1 .left)) in
+    rw (c .baselines-of .ensures, at-sums .day-sums .ensures, c .before .earlier-use .ensures, four .1, four .0)
+
+pub consumer-baselines-spec : {M : Type 1} → statement M
+consumer-baselines-spec =
+    tie.close
+    (tie.spec (λ c κs. search needs) returns (λ c κs. search needs) (λ c κs. search needs) baselines-of-requires returns-2)

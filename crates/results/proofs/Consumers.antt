@@ -1,0 +1,83 @@
+-- A consumer whose value passed its tests, and its results by the answer of its baseline. Assumes nothing.
+use mathlib.Core.Path.{_≡_, sym, ap, _∙_}
+use mathlib.Core.Bool.{true, false, not}
+use mathlib.Core.List.{List}
+use Prim.Native.Nat.{ℕ, _+_, _*_, _-_, _≤_}
+use native.Mathlib.Omega.{arith}
+use lib.Dec.{leb}
+use lib.IntN.{pos}
+use lib.ListN.{length, take, drop, replicate, length-drop}
+use mir.Facts.{leb-yes}
+use borrow.Author.Tests.{not-true, not-false}
+use Rattle.numbers.specs.Lists.{run}
+use Rattle.numbers.proofs.Parts.{rest-of}
+use Rattle.numbers.proofs.Refusals.{untold}
+use Rattle.calendar.specs.Dates.{isDate}
+use Rattle.readings.specs.Readings.{mostReading}
+use Rattle.readings.proofs.Sums.{run-within}
+use Rattle.baseline.specs.Choosing.{isFew}
+use Rattle.baseline.specs.Baseline.{chosenDays, baselineOn}
+use Rattle.baseline.specs.Days.{AtMost, Tested, baselinesOn}
+use Rattle.baseline.specs.declared.Baselines.{Baselines}
+use Rattle.baseline.proofs.Bounds.{baseline-bound}
+use Rattle.heads.specs.Limits.{mostLoss}
+use Rattle.heads.specs.Heads.{testDay, contentTests, contentRefusal}
+use Rattle.heads.specs.declared.Head.{Head}
+use Rattle.heads.proofs.Opening.{both, opens}
+use Rattle.points.specs.Points.{consumer, classOf}
+use Rattle.results.specs.SlotResults.{lossOf, daysOf, quotients}
+use Rattle.results.specs.Steps.{Passed, consumerSlot, foundOf}
+use Rattle.results.proofs.Bounds.{all-tested}
+
+module _ {h : Head} {marks v : List ℕ} (p : Passed h marks consumer v) where
+  pub dated : isDate (h .year) (h .month) (h .day) ≡ true
+  unfolding contentRefusal
+  dated = not-false _ (untold (contentTests h marks) tt (p .content) 2)
+
+  pub classed : (1 ≤ classOf v) × (classOf v ≤ 3)
+  classed = let t = both (leb 1 (classOf v)) (leb (classOf v) 3) (p .fit) in (leb-yes (t .0), leb-yes (t .1))
+
+  pub lossy : lossOf h v ≤ mostLoss
+  lossy = opens h marks (p .content) .losses _
+
+  pub tested : Tested (drop 23 v) (h .slot)
+  tested =
+      let o = opens h marks (p .content) in
+      record {
+        size = simp length-drop (omega (arith, p .size));
+        small = all-tested consumer v (p .small);
+        first = omega (arith, o .first-slot);
+        last = omega (arith, o .last-slot);
+      }
+
+  -- by the answer of its baseline, for the count of the test day and the readings that it was given
+  module _ {test : ℕ} {answer : Baselines} (t : test ≡ testDay h)
+      (e : let readings = take (length v - 23) (drop 23 v) in answer ≡ baselinesOn (chosenDays test marks readings (h .slot)) readings (h .slot)) where
+    is-answer : answer ≡ baselinesOn (daysOf h marks v) (drop 23 v) (h .slot)
+    is-answer = e ∙ rw (t, rest-of v 23)
+
+    flag : answer .enough ≡ not (isFew (daysOf h marks v))
+    unfolding baselinesOn
+    flag = ap (λ a. a .enough) is-answer
+
+    pub too-few : answer .enough ≡ false → foundOf h marks consumer v ≡ record { enough = false; found = replicate 6 (pos 0) }
+    unfolding foundOf
+    too-few f = let q : isFew (daysOf h marks v) ≡ true = not-false _ (sym flag ∙ f) in rw q
+
+    module _ (f : answer .enough ≡ true) where
+      four : isFew (daysOf h marks v) ≡ false
+      four = not-true _ (sym flag ∙ f)
+
+      on-days : answer .slots ≡ run (baselineOn (drop 23 v) (daysOf h marks v) (h .slot)) 0 6
+      unfolding baselinesOn
+      on-days = ap (λ a. a .slots) is-answer ∙ rw four
+
+      pub baselines-small : AtMost 48_000_000_000 (answer .slots)
+      baselines-small =
+          rw on-days (run-within (baselineOn (drop 23 v) (daysOf h marks v) (h .slot)) (48 * mostReading) 0 6
+          λ j l. baseline-bound (testDay h) marks (drop 23 v) (h .slot) (tested .small) (tested .last) (0 + j))
+
+      pub consumer-results : foundOf h marks consumer v
+          ≡ record { enough = true; found = run (consumerSlot (lossOf h v) (answer .slots) (drop 23 v) (h .slot)) 0 6 }
+      unfolding foundOf quotients run
+      consumer-results = rw (on-days, four)
