@@ -6,14 +6,13 @@ ghost use lib.Dec.{eqb};
 ghost use Rattle.fields.specs.Fields.{isTag, isPoint, lengthDue, headerRefusal, fieldOf, refusalOf};
 use crate::Due;
 use crate::Field;
-use crate::refusals;
 
 // The number of a field answer.
 pub fn refusal_of(field: Field) -> u32
     ensures { λ r. ⌜ r ≡ refusalOf field ⌝ }
 {
     match field {
-        Field::Value(_, _) => heads::refusals::ACCEPTED,
+        Field::Value(_, _) => refusals::ACCEPTED,
         Field::Refused(refusal) => refusal,
     }
 }
@@ -50,7 +49,7 @@ fn short_refusal(due: Due, length: usize) -> u32
     match due {
         Due::Head => refusals::BOOK_CUT,
         Due::Calendar => refusals::BOOK_CUT,
-        Due::Point => heads::refusals::COUNT_NOT_REACHED,
+        Due::Point => refusals::COUNT_NOT_REACHED,
     }
 }
 
@@ -60,7 +59,7 @@ fn tag_refusal(due: Due) -> u32
     match due {
         Due::Head => refusals::WRONG_TAG,
         Due::Calendar => refusals::WRONG_TAG,
-        Due::Point => heads::refusals::POINT_TAG,
+        Due::Point => refusals::POINT_TAG,
     }
 }
 
@@ -68,9 +67,9 @@ fn length_refusal(due: Due) -> u32
     ensures { λ r. ⌜ r ≡ cond (isPoint due) 12 1 ⌝ }
 {
     match due {
-        Due::Head => heads::refusals::HEAD_LENGTH,
-        Due::Calendar => heads::refusals::HEAD_LENGTH,
-        Due::Point => heads::refusals::POINT_LENGTH,
+        Due::Head => refusals::HEAD_LENGTH,
+        Due::Calendar => refusals::HEAD_LENGTH,
+        Due::Point => refusals::POINT_LENGTH,
     }
 }
 
@@ -89,7 +88,7 @@ pub fn header_refusal(due: Due, left: &[u8]) -> u32
     if numbers::word16_at(left, 1) as usize != size {
         return length_refusal(due);
     }
-    heads::refusals::ACCEPTED
+    refusals::ACCEPTED
 }
 
 // The field answer.
@@ -97,7 +96,7 @@ pub fn cut(due: Due, left: &[u8]) -> Field
     ensures { λ r. ⌜ r ≡ fieldOf due (now (left .entry)) ⌝ }
 {
     let refusal = header_refusal(due, left);
-    if refusal != heads::refusals::ACCEPTED {
+    if refusal != refusals::ACCEPTED {
         return Field::Refused(refusal);
     }
     let tag = left[0];

@@ -1,6 +1,5 @@
 // Fields: cutting one off the front of a book, and writing one.
 pub mod cutting;
-pub mod refusals;
 pub mod writing;
 
 // Which field is due at a place of the book.

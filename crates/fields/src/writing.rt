@@ -6,7 +6,6 @@ ghost use Rattle.numbers.specs.Placing.{atFront};
 ghost use Rattle.fields.specs.Fields.{written};
 ghost use Rattle.fields.specs.Writing.{headWritingRefusal, headWritingOut};
 ghost use Rattle.fields.specs.Writing.{valueWritingRefusal, pointWritingRefusal, pointWritingOut};
-use crate::refusals;
 
 // A field over the first of the lent bytes.
 fn put_field(tag: u8, value: &[u8], out: &mut [u8])
@@ -30,7 +29,7 @@ pub fn write_head(head: &[u8], calendar: &[u8], out: &mut [u8]) -> u32
     ensures { λ r. ⌜ (r ≡ headWritingRefusal (now (head .entry)) (now (calendar .entry)) (length (now (out .entry)))) × (now (out .exit) ≡ headWritingOut (now (head .entry)) (now (calendar .entry)) (now (out .entry))) ⌝ }
 {
     let refusal = heads::opening_refusal(head, calendar);
-    if refusal != heads::refusals::ACCEPTED {
+    if refusal != refusals::ACCEPTED {
         return refusal;
     }
     if out.len() < 53 {
@@ -38,7 +37,7 @@ pub fn write_head(head: &[u8], calendar: &[u8], out: &mut [u8]) -> u32
     }
     put_field(1, head, out);
     put_field(2, calendar, &mut out[20..]);
-    heads::refusals::ACCEPTED
+    refusals::ACCEPTED
 }
 
 // What is refused in a point before room is looked for: 11, 12, 14, 16, 17.
@@ -46,11 +45,11 @@ fn point_refusal(tag: u8, value: &[u8]) -> u32
     ensures { λ r. ⌜ r ≡ valueWritingRefusal tag (now (value .entry)) ⌝ }
 {
     let form = points::form_refusal(tag, value.len());
-    if form != heads::refusals::ACCEPTED {
+    if form != refusals::ACCEPTED {
         return form;
     }
     if !numbers::is_number(&value[0..22]) {
-        return heads::refusals::POINT_NUMBER;
+        return refusals::POINT_NUMBER;
     }
     points::value_refusal(tag, value)
 }
@@ -60,12 +59,12 @@ pub fn write_point(tag: u8, value: &[u8], out: &mut [u8]) -> u32
     ensures { λ r. ⌜ (r ≡ pointWritingRefusal tag (now (value .entry)) (length (now (out .entry)))) × (now (out .exit) ≡ pointWritingOut tag (now (value .entry)) (now (out .entry))) ⌝ }
 {
     let refusal = point_refusal(tag, value);
-    if refusal != heads::refusals::ACCEPTED {
+    if refusal != refusals::ACCEPTED {
         return refusal;
     }
     if out.len() < 3 + value.len() {
         return refusals::LENT_BYTES;
     }
     put_field(tag, value, out);
-    heads::refusals::ACCEPTED
+    refusals::ACCEPTED
 }

@@ -19,6 +19,10 @@ leastContract = 1_000
 abbrev pub mostContract : ℕ
 mostContract = 10_000_000
 
+-- of a list
+abbrev pub leastPoints : ℕ
+leastPoints = 1
+
 abbrev pub mostPoints : ℕ
 mostPoints = 10_000
 

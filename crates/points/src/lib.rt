@@ -7,7 +7,6 @@ ghost use lib.Dec.{leb, eqb};
 ghost use lib.ListN.{length, getD};
 ghost use Rattle.numbers.specs.Refusals.{firstOf};
 ghost use Rattle.points.specs.Points.{kindOf, isUnknown, sizeOf, numberOf, isUnfit, hasLarge, formRows, valueRows};
-use heads::refusals;
 
 pub const CONSUMER: u8 = 3;
 

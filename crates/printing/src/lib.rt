@@ -108,7 +108,7 @@ pub fn write_text(ending: Ending, out: &mut [u8; 640]) -> usize
 {
     let refusal = ending.refusal;
     let state = ending.state;
-    if refusal != heads::refusals::ACCEPTED {
+    if refusal != refusals::ACCEPTED {
         return lines::put_line(b"refused ", refusal as u64, 0, out);
     }
     put_settled(state, 0, out)

@@ -1,4 +1,4 @@
-// The refusals of document 01, 'Operations and their refusals'. 0 is accepted.
+// The refusals of document 01, 'Operations and their refusals', by name. 0 is accepted.
 
 pub const ACCEPTED: u32 = 0;
 
@@ -41,3 +41,13 @@ pub const READING: u32 = 17;
 pub const TOO_FEW_DAYS: u32 = 18;
 
 pub const COUNT_NOT_REACHED: u32 = 20;
+
+// A book and writing. Under three bytes left, or a value that is cut.
+pub const BOOK_CUT: u32 = 31;
+
+// Too few bytes to write to, or not 64 for a result.
+pub const LENT_BYTES: u32 = 40;
+
+pub const WRONG_TAG: u32 = 41;
+
+pub const BYTES_AFTER: u32 = 42;
