@@ -30,6 +30,13 @@ mostPoints = 10_000
 abbrev pub mostResult : ℕ
 mostResult = 4_000_000_000
 
+-- the voltage classes of consumers: 1 low, 2 high, 3 extra-high
+abbrev pub lowClass : ℕ
+lowClass = 1
+
+abbrev pub extraHighClass : ℕ
+extraHighClass = 3
+
 -- kW, of a generator
 abbrev pub mostBaseline : ℕ
 mostBaseline = 1_000_000
