@@ -16,7 +16,7 @@ use Rattle.heads.specs.declared.Head.{Head}
 use Rattle.ledger.specs.declared.State.{State}
 use Rattle.results.specs.Steps.{foundOf}
 use Rattle.heads.proofs.Opening.{opens}
-use Rattle.points.proofs.Forms.{known-length}
+use Rattle.points.proofs.PointKinds.{known-length}
 use Rattle.ledger.proofs.Taking.{takes, result-small}
 use Rattle.ledger.proofs.Sound.{Sound, sound, adding-sound}
 use Rattle.ledger.proofs.TotalBounds.{total-small}
