@@ -5,7 +5,8 @@ To be run at the top of the repository.
 
     docs/first_errors.py            prints the table from the logs in target/must-fail/, which `rt ci` or `rt must-fail` leaves
     docs/first_errors.py --write    puts it into docs/CLAIMS.md; a row whose edit has no log keeps its first error
-    docs/first_errors.py --list     compares the claims and edits of docs/CLAIMS.md with the edits that there are
+    docs/first_errors.py --list     compares the claims and edits of docs/CLAIMS.md with the edits that there are; each edit
+                                    must also be named with a rule or a demand, above the table
     docs/first_errors.py --check    compares all of the table with edits and logs; each first error must be a fact that fails
 
 Errors that only follow from another one ('was not admitted') are passed over. A function that needs no proof file is told in
@@ -27,12 +28,14 @@ FACTS = [
     (r"`omega`: the goal does not follow.*fails, at .*", "`omega`: the goal does not follow, and fails at values that it names"),
     (r"`omega`: .*", "`omega`: the goal does not follow"),
     (r"`search`: .*", "`search`: no proof"),
-    (r".* differ only where one has `([^`]{1,40})` \(expected\) and the other has `([^`]{1,40})` .*", r"`\1` expected, `\2` found"),
     (r"give a proof of that as the last argument.*", "the equation does not hold after rewriting"),
     (r"list the missing equation.*", "`cc`: the equation does not follow"),
     (r".*: no occurrence of the path's .*|`simp`: no equation of the list .*", "the equation does not speak of what is due"),
-    (r".*the two (types|sides|indices) .*|expected type (?!`tie\.Need-).*|`borrow\..*|`omega` does not read .*", "the fact that is due and the one that is proved differ"),
+    (r".*the two (types|sides|indices) .*|expected type .*|`borrow\..*|`omega` does not read .*", "the fact that is due and the one that is proved differ"),
 ]
+DIFFER = re.compile(
+    r"differ (?:only )?where one has `([^`|]+)` \(expected\)(?:, right after `[^`]*`,?)? and the other has `([^`|]+)` \(found\)"
+    r"|the two types are `([^`|]+)` \(expected\) and `([^`|]+)` \(found\)")
 NO_FACT = "no fact: "
 
 
@@ -55,10 +58,22 @@ def function_at(folder, name, line, column):
     return name
 
 
+def difference(message):
+    """The last place where what is expected and what is found are said to differ, if it is short; names without their module."""
+    pairs = [[re.sub(r"[^\s(]+\.(?=[^\s.])", "", side) for side in found if side] for found in DIFFER.findall(message)]
+    pairs = [pair for pair in pairs if max(map(len, pair)) <= 40]
+    return "`{}` expected, `{}` found".format(*pairs[-1]) if pairs else None
+
+
 def shortened(file, message):
+    # A definition or a contract that is refused, or a need in another's place.
+    if file.startswith(("specs/", "src/")) or message.startswith("expected type `tie.Need-"):
+        return NO_FACT + message[:80]
+    if difference(message):
+        return difference(message)
     for pattern, words in FACTS:
         found = re.match(pattern, message)
-        if found and not file.startswith(("specs/", "src/")):
+        if found:
             return found.expand(words) if "\\" in words else words
     return NO_FACT + message[:80]
 
@@ -68,8 +83,9 @@ def first_error(edit):
     folder = LOGS / edit
     if not (folder / ".log").exists():
         return None
-    for line in (folder / ".log").read_text().split("\n"):
-        line = line.replace(str(folder.resolve()) + "/", "")
+    # A message goes on in lines that are set in.
+    for line in (folder / ".log").read_text().replace("\n  ", " ").split("\n"):
+        line = re.sub(rf"\S*/{edit}/(?=(src|specs|proofs)/)", "", line)
         found = re.match(r"note: ([^:\s]+):(\d+):(\d+): it is not proved that .*\((`[^`]+`)\)", line)
         if found:
             return f"{function_at(folder, found[1], int(found[2]), int(found[3]))}: {found[4]}: not proved"
@@ -100,10 +116,22 @@ def row(edit, claim, told):
     return f"| {claim} | {edit} | {told} |"
 
 
-def differences(due, rows, with_logs):
+def named_edits(line):
+    """The edits that a row of a rule names, in its last column of four."""
+    cells = line.split("|")
+    return re.findall(r"[a-z0-9]+(?:_[a-z0-9]+)+", cells[4]) if len(cells) == 6 else []
+
+
+def differences(due, before, rows, with_logs):
     """What docs/CLAIMS.md and the logs have to say otherwise."""
     if not due:
         yield "no must-fail edit was found"
+    names = {edit.split("/")[1] for edit, _ in due}
+    named = set(re.findall(r"\w+", " ".join(before)))
+    for name in sorted(names - named):
+        yield f"docs/CLAIMS.md names {name} with no rule"
+    for name in sorted(name for line in before for name in named_edits(line) if name not in names):
+        yield f"docs/CLAIMS.md names an edit that is not there: {name}"
     for edit in sorted(rows.keys() - dict(due).keys()):
         yield f"docs/CLAIMS.md has a row of an edit that is not there: {edit}"
     for edit, claim in due:
@@ -124,7 +152,8 @@ def differences(due, rows, with_logs):
 def main(mode):
     due = list(edits())
     if mode in (["--list"], ["--check"]):
-        found = list(differences(due, table()[1], mode == ["--check"]))
+        before, rows, _ = table()
+        found = list(differences(due, before, rows, mode == ["--check"]))
         print(*found, sep="\n", end="\n" if found else "", file=sys.stderr)
         return 1 if found else 0
     if mode not in ([], ["--write"]):

@@ -1,5 +1,5 @@
 //! The two sequences of calls that the product works out by computing its
-//! definitions (crates/worked_examples/proofs/Sequence.antt): the same refusals, the
+//! definitions (crates/worked_examples/specs/Sequences.antt): the same refusals, the
 //! same figures, the same exact shortfall.
 
 use settlement::account::{parts_of_a_kw, Account};

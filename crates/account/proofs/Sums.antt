@@ -1,15 +1,12 @@
 -- Sums of signed numbers: of lists one after the other, and slot by slot. Assumes nothing.
 use mathlib.Core.Path.{_≡_, refl, sym, _∙_, ap}
 use mathlib.Core.List.{List, [], _∷_, _++_, map}
-use Prim.Native.Nat.{ℕ}
 use native.Mathlib.Omega.{arith}
 use lib.IntN.{ℤ, _+ℤ_, +ℤ-idl, +ℤ-assoc}
 use lib.ListN.{length}
 use Rattle.integers.specs.Integers.{sumℤ}
 use Rattle.integers.proofs.Differences.{by⊖, ⊖s}
 use Rattle.figures.specs.SlotTotals.{plus}
-use Rattle.ledger.specs.States.{taken}
-use Rattle.ledger.specs.declared.State.{State}
 
 pub sum-append : {A : Type 0} (f : A → ℤ) (xs ys : List A) → sumℤ (map f (xs ++ ys)) ≡ sumℤ (map f xs) +ℤ sumℤ (map f ys)
 unfolding sumℤ
@@ -19,15 +16,9 @@ sum-append f (x ∷ xs) ys = ap (f x +ℤ_) (sum-append f xs ys) ∙ sym (+ℤ-a
 across : (a b c d : ℤ) → (a +ℤ b) +ℤ (c +ℤ d) ≡ (a +ℤ c) +ℤ (b +ℤ d)
 across = by⊖ _ λ a a′. by⊖ _ λ b b′. by⊖ _ λ c c′. by⊖ _ λ d d′. simp ⊖s (omega arith)
 
-sum-plus : (xs ys : List ℤ) → length xs ≡ length ys → sumℤ (plus xs ys) ≡ sumℤ xs +ℤ sumℤ ys
+pub sum-plus : (xs ys : List ℤ) → length xs ≡ length ys → sumℤ (plus xs ys) ≡ sumℤ xs +ℤ sumℤ ys
 unfolding sumℤ plus
 sum-plus [] [] e = refl
 sum-plus [] (y ∷ ys) e = absurd (omega arith)
 sum-plus (x ∷ xs) [] e = absurd (omega arith)
 sum-plus (x ∷ xs) (y ∷ ys) e = ap ((x +ℤ y) +ℤ_) (sum-plus xs ys (omega arith)) ∙ across x y (sumℤ xs) (sumℤ ys)
-
--- a point's results are in the totals
-pub taken-total : (state : State) (found : List ℤ) (number : List ℕ) → length (state .totals) ≡ length found
-    → sumℤ (taken state found number .totals) ≡ sumℤ (state .totals) +ℤ sumℤ found
-unfolding taken
-taken-total state found number e = sum-plus (state .totals) found e

@@ -10,7 +10,7 @@ use lib.IntN.{ℤ, pos}
 use lib.Signed.{leZ}
 use lib.ListN.{length}
 use Rattle.numbers.specs.Lists.{any, gather}
-use Rattle.integers.specs.Integers.{divides, sumℤ}
+use Rattle.integers.specs.Integers.{floorDiv, divides, sumℤ}
 use Rattle.heads.specs.Heads.{headOf}
 use Rattle.points.specs.Points.{Point, Kind, consumer, generator, unknown, kindOf}
 use Rattle.results.specs.SlotResults.{Quotient, quotients, rounded}
@@ -69,6 +69,9 @@ noLoss h marks points figures = leZ (pos (h .contract)) (figures .settled) || no
 -- An accepted closing: the printed shortfall in whole kW, times the parts of a kW, beside the exact one in parts.
 pub record Accurate (h : Head) (marks : List ℕ) (points : List Point) (figures : Figures) (exact : ℕ) : Type 0 where
   pub counted : figures .points ≡ length points
+  -- 'all results of all points and slots', and 'total ÷ 3,000, rounded toward minus infinity'
+  pub total : figures .total ≡ roundedTotal h marks points
+  pub settled : figures .settled ≡ floorDiv (roundedTotal h marks points) 3_000
   pub unrounded : T (keepsFractions h marks points)
   pub equal : (figures .shortfall * partsOfkW h ≡ exact) ↔ T (noLoss h marks points figures)
   -- 'At every other accepted closing the printed one is the greater, by less than one kW plus two watts for each point accepted'
@@ -90,6 +93,10 @@ pub data AgreeAll (h : Head) (marks : List ℕ) : List (List Point) → List Rep
       → AgreeAll h marks pointss replies sayss
       → AgreeAll h marks (points ∷ pointss) (reply ∷ replies) (says ∷ sayss)
 
-abbrev pub Demand3 : Type 0
-Demand3 = (head calendar : List ℕ) (calls : List Call)
+-- of a program, by what it replies to an opening and the calls after it
+abbrev pub Demand3Of : (List ℕ → List ℕ → List Call → List Reply) → Type 0
+Demand3Of program = (head calendar : List ℕ) (calls : List Call)
     → AgreeAll (headOf head) calendar (takenAll (opening head calendar) calls) (program head calendar calls) (account head calendar calls)
+
+abbrev pub Demand3 : Type 0
+Demand3 = Demand3Of program

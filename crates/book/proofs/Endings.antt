@@ -7,14 +7,14 @@ use borrow.Author.Tests.{eq-eqb, ne-eqb}
 use lib.ListN.{length, take, drop, length-drop}
 use lib.Seq.{drop-drop, take-all}
 use Rattle.points.specs.Points.{Point}
-use Rattle.ledger.specs.Operations.{openOf, addOf, closeOf}
+use Rattle.ledger.specs.Operations.{openOf, addOf}
 use Rattle.ledger.specs.declared.State.{State}
 use Rattle.ledger.specs.declared.Opened.{Opened}
 use Rattle.ledger.specs.declared.Added.{Added}
 use Rattle.fields.specs.Fields.{fieldOf, valueIn, behind}
 use Rattle.book.specs.Reading.{Reading, refused, good, _>>=_, Points, before, readPoints, Book, bookOf, readBook}
-use Rattle.book.specs.Endings.{refusedWith, pointsEnding, bookEnding}
-use Rattle.book.specs.Settling.{closingOf, resultBytes, settlingRefusal, settlingResult}
+use Rattle.book.specs.Endings.{refusedWith, pointsEnding, bookEnding, closedAfter}
+use Rattle.book.specs.Settling.{closingOf, resultLength, resultBytes, settlingRefusal, settlingResult}
 use Rattle.fields.specs.declared.Due.{Due}
 use Rattle.fields.specs.declared.Due.the-variants as due
 use Rattle.book.specs.declared.Ending.{Ending}
@@ -22,7 +22,6 @@ use Rattle.fields.specs.declared.Field.{Field}
 use Rattle.fields.specs.declared.Field.the-variants.{Value, Refused}
 use Rattle.fields.proofs.Answers.{cut-within}
 use Rattle.book.proofs.Readings.{Told, book-told}
-use Rattle.book.proofs.Closings.{closes}
 
 -- ---- points
 
@@ -87,15 +86,14 @@ module _ (book : List ℕ) where
           rw (e, f, eq-eqb _ _ w)
           (book-of-ending (valueIn size book) (valueIn size₂ (behind size book)) (readPoints (opened .state .head .count) (opened .state) (behind size₂ (behind size book))))
 
--- ---- the refusal is that of the whole book
+-- ---- the closing after the reading is that of the whole book
 
-pub ending-refusal : (book : List ℕ) → bookEnding (readBook book) .refusal ≡ settlingRefusal book 64
-unfolding settlingRefusal
-ending-refusal book = go (readBook book) refl
+pub ending-closes : (book : List ℕ) → closedAfter (bookEnding (readBook book)) ≡ closingOf (readBook book)
+ending-closes book = go (readBook book) (book-told book)
   where
-    go : (r : Reading Book) → readBook book ≡ r → bookEnding r .refusal ≡ closingOf r .refusal
-    go (refused n) e = refl
-    go (good r) e = rw (closes book r e)
+    go : (r : Reading Book) → Told r → closedAfter (bookEnding r) ≡ closingOf r
+    go (refused n) t = rw (ne-eqb _ _ t)
+    go (good r) t = refl
 
 -- ---- over a book and a place in it, as the code cuts it
 
@@ -178,30 +176,15 @@ module _ (book result : List ℕ) where
   abbrev Answer : ℕ → List ℕ → Type 0
   Answer refusal bytes = (refusal ≡ settlingRefusal book (length result)) × (bytes ≡ settlingResult book result)
 
-  pub no-room : (length result ≡ 64 → ⊥) → Answer 40 result
+  pub no-room : (length result ≡ resultLength → ⊥) → Answer 40 result
   unfolding settlingRefusal settlingResult
   no-room n = let k = ne-eqb _ _ n in (simp k, simp k)
 
-  module _ (room : length result ≡ 64) where
-    pub not-read : (bookEnding (readBook book) .refusal ≡ 0 → ⊥) → Answer (bookEnding (readBook book) .refusal) result
-    unfolding settlingResult
-    not-read n = rw (room, ← ending-refusal book) (refl, simp (ne-eqb _ _ n))
+  module _ (room : length result ≡ resultLength) where
+    pub not-settled : (closingOf (readBook book) .refusal ≡ 0 → ⊥) → Answer (closingOf (readBook book) .refusal) result
+    unfolding settlingRefusal settlingResult
+    not-settled n = rw room (refl, simp (ne-eqb _ _ n))
 
-    module _ (e : bookEnding (readBook book) .refusal ≡ 0) where
-      read-closes : closingOf (readBook book) ≡ closeOf (bookEnding (readBook book) .state)
-      read-closes = go (readBook book) (book-told book) e
-        where
-          go : (r : Reading Book) → Told r → bookEnding r .refusal ≡ 0 → closingOf r ≡ closeOf (bookEnding r .state)
-          go (refused n) t z = absurd (t z)
-          go (good r) t z = refl
-
-      pub closing-accepted : closeOf (bookEnding (readBook book) .state) .refusal ≡ 0
-      closing-accepted = go (readBook book) refl (book-told book) e
-        where
-          go : (r : Reading Book) → readBook book ≡ r → Told r → bookEnding r .refusal ≡ 0 → closeOf (bookEnding r .state) .refusal ≡ 0
-          go (refused n) p t z = absurd (t z)
-          go (good r) p t z = closes book r p
-
-      pub all-settled : Answer 0 (resultBytes (closeOf (bookEnding (readBook book) .state) .figures))
-      unfolding settlingResult
-      all-settled = rw (room, ← ending-refusal book, e, read-closes) (refl, refl)
+    pub all-settled : closingOf (readBook book) .refusal ≡ 0 → Answer 0 (resultBytes (closingOf (readBook book) .figures))
+    unfolding settlingRefusal settlingResult
+    all-settled e = rw (room, e) (refl, refl)

@@ -3,8 +3,9 @@ use mathlib.Core.Path.{_≡_, refl, sym, ap, _∙_}
 use mathlib.Core.Bool.{Bool, true, false}
 use mathlib.Core.List.{List, [], _∷_, _++_}
 use Prim.Native.Nat.{ℕ, suc, _+_, _-_, _*_, _/_, _%_, _^_, _<_}
+use native.Mathlib.Decide.{ℕ-discrete}
 use native.Mathlib.Omega.{arith}
-use borrow.Author.Tests.{ltb-true, ltb-false, le-ltb}
+use borrow.Author.Tests.{ltb-true, ltb-false, le-ltb, ne-eqb}
 use lib.Dec.{ltb}
 use lib.IntN.{ℤ, pos, negsuc}
 use lib.Signed.{mag}
@@ -15,9 +16,10 @@ use Rattle.integers.specs.Integers.{sumℤ, twosComplement}
 use Rattle.numbers.specs.Words.{bytesOf}
 use Rattle.figures.specs.Figures.{settledOf, shortfallOf, expectedOf, figuresOf}
 use Rattle.ledger.specs.Operations.{closeOf}
-use Rattle.ledger.specs.declared.State.{State}
 use Rattle.figures.proofs.FigureSteps.{shortfall-above, shortfall-below}
 use Rattle.ledger.proofs.Sound.{close-refusal, close-good}
+use Rattle.book.specs.Endings.{closedAfter}
+use Rattle.book.specs.declared.Ending.{Ending}
 use Rattle.book.specs.Results.{SmallWords, wordBytes}
 
 abbrev wordOf : ℤ → List ℕ
@@ -67,9 +69,17 @@ figures-small contract totals points h k =
     let s = settled-small contract (sumℤ totals) h k in
     record { shortfall = s .1; expected = s .0; kept = omega arith; surplus = omega arith }
 
-pub closed-small : (state : State) → closeOf state .refusal ≡ 0 → state .head .contract < 2 ^ 32 → mag (closeOf state .figures .total) < 2 ^ 63
-    → SmallWords (closeOf state .figures)
-unfolding figuresOf
-closed-small state e contract total =
-    let is = close-good state (sym (close-refusal state) ∙ e) in
-    rw is (figures-small (state .head .contract) (state .totals) (state .points) contract (rw is at total))
+-- of the closing after a reading
+pub closed-small : (ending : Ending) → closedAfter ending .refusal ≡ 0 → ending .state .head .contract < 2 ^ 32
+    → mag (closedAfter ending .figures .total) < 2 ^ 63 → SmallWords (closedAfter ending .figures)
+unfolding figuresOf sumℤ
+closed-small ending e contract total = go (ℕ-discrete (ending .refusal) 0)
+  where
+    closes : closeOf (ending .state) .refusal ≡ 0 → mag (closeOf (ending .state) .figures .total) < 2 ^ 63 → SmallWords (closeOf (ending .state) .figures)
+    closes e total =
+        let is = close-good (ending .state) (sym (close-refusal (ending .state)) ∙ e) in
+        rw is (figures-small (ending .state .head .contract) (ending .state .totals) (ending .state .points) contract (rw is at total))
+
+    go : Dec (ending .refusal ≡ 0) → SmallWords (closedAfter ending .figures)
+    go (yes z) = rw z (closes (rw z at e) (rw z at total))
+    go (no n) = absurd (n (rw (ne-eqb _ _ n) at e))

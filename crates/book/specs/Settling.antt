@@ -32,13 +32,17 @@ wordsOf f =
     ∷ pos (cond (f .bid) 1 0)
     ∷ []
 
+-- '64 bytes for the result'
+abbrev pub resultLength : ℕ
+resultLength = 64
+
 -- 'eight signed 8-byte words (two's complement, high byte first)'
 abbrev pub resultBytes : Figures → List ℕ
 resultBytes f = gather (λ word. bytesOf 8 (twosComplement word)) (wordsOf f)
 
 -- 40: not 64 bytes; then field by field
 unfoldable pub settlingRefusal : List ℕ → ℕ → ℕ
-settlingRefusal book room = cond (eqb room 64) (closingOf (readBook book) .refusal) 40
+settlingRefusal book room = cond (eqb room resultLength) (closingOf (readBook book) .refusal) 40
 
 unfoldable pub settlingResult : List ℕ → List ℕ → List ℕ
 settlingResult book result =

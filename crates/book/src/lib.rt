@@ -1,3 +1,4 @@
+// A whole book: how its reading ends, its closing and the result bytes.
 pub mod settling;
 
 use ledger::State;

@@ -6,15 +6,19 @@ ghost use Prim.Native.Nat.{ℕ, _+_, _^_, _≤_, _<_};
 ghost use lib.IntN.{ℤ, pos};
 ghost use lib.ListN.{length, getD, drop};
 ghost use Rattle.book.specs.Reading.{readPoints, readBook};
-ghost use Rattle.book.specs.Endings.{refusedWith, pointsEnding, bookEnding};
-ghost use Rattle.book.specs.Settling.{wordsOf, settlingRefusal, settlingResult};
+ghost use Rattle.book.specs.Endings.{refusedWith, pointsEnding, bookEnding, closedAfter};
+ghost use Rattle.book.specs.Settling.{resultLength, wordsOf, settlingRefusal, settlingResult};
 ghost use Rattle.book.specs.Results.{SmallWords, wordBytes};
 use crate::Ending;
 use fields::Due;
 use fields::Field;
 use fields::cutting;
 use figures::Figures;
+use ledger::Closed;
 use ledger::State;
+
+// The length of a result: eight words of eight bytes.
+const RESULT_LENGTH: usize = 64;
 
 // A refused reading.
 fn refused(refusal: u32) -> Ending
@@ -81,6 +85,22 @@ fn read(book: &[u8]) -> Ending
     read_points(state, book, end)
 }
 
+// The closing after a reading: the reading's refusal, or what closing answers.
+pub fn close(ending: Ending) -> Closed
+    ensures { λ r. ⌜ r ≡ closedAfter ending ⌝ }
+{
+    let told = ending.refusal;
+    if told != refusals::ACCEPTED {
+        let figures = figures::closing::no_figures();
+        return Closed {
+            refusal: told,
+            figures,
+        };
+    }
+    let state = ending.state;
+    ledger::close(state)
+}
+
 // A number without a sign as a signed word.
 fn signed(number: u64) -> i64
     requires { ⌜ number < 2 ^ 63 ⌝ }
@@ -120,7 +140,7 @@ fn words_of(figures: Figures) -> [i64; 8]
 
 // One byte of a result.
 fn result_byte(words: [i64; 8], i: usize) -> u8
-    requires { ⌜ i < 64 ⌝ }
+    requires { ⌜ i < resultLength ⌝ }
     ensures { λ r. ⌜ r ≡ getD (wordBytes words) i 0 ⌝ }
 {
     let bytes = integers::word_bytes(words[i / 8]);
@@ -129,11 +149,11 @@ fn result_byte(words: [i64; 8], i: usize) -> u8
 
 // The words into the lent bytes.
 fn put_words(words: [i64; 8], result: &mut [u8])
-    requires { ⌜ length (now result) ≡ 64 ⌝ }
+    requires { ⌜ length (now result) ≡ resultLength ⌝ }
     ensures { λ _. ⌜ now (result .exit) ≡ wordBytes words ⌝ }
 {
     let mut i: usize = 0;
-    while i < 64 {
+    while i < RESULT_LENGTH {
         result[i] = result_byte(words, i);
         i += 1;
     }
@@ -141,19 +161,18 @@ fn put_words(words: [i64; 8], result: &mut [u8])
 
 // Whole book: the answer is its refusal; 0 puts its figures into the 64 lent bytes.
 pub fn settle(book: &[u8], result: &mut [u8]) -> u32
-    ensures { λ r. ⌜ (r ≡ settlingRefusal (now (book .entry)) (length (now (result .entry)))) × (now (result .exit) ≡ settlingResult (now (book .entry)) (now (result .entry))) ⌝ }
+    ensures { λ r. ⌜ r ≡ settlingRefusal (now (book .entry)) (length (now (result .entry))) ⌝ }
+    ensures { λ _. ⌜ now (result .exit) ≡ settlingResult (now (book .entry)) (now (result .entry)) ⌝ }
 {
-    if result.len() != 64 {
+    if result.len() != RESULT_LENGTH {
         return refusals::LENT_BYTES;
     }
     let ending = read(book);
-    let refusal = ending.refusal;
+    let closed = close(ending);
+    let refusal = closed.refusal;
     if refusal != refusals::ACCEPTED {
         return refusal;
     }
-    // The closing of a book that is read in full is never refused.
-    let state = ending.state;
-    let closed = ledger::close(state);
     let figures = closed.figures;
     let words = words_of(figures);
     put_words(words, result);

@@ -49,7 +49,7 @@ stays (suc n) head state refusal left = stays n head state refusal left
 
 -- ---- a field in two feedings
 
-fed-one : (n : ℕ) (p : Progress) (left : List ℕ) → fed (suc n) p left ≡ fed n (feedOf p left) (drop (dueOf (p .wait)) left)
+pub fed-one : (n : ℕ) (p : Progress) (left : List ℕ) → fed (suc n) p left ≡ fed n (feedOf p left) (drop (dueOf (p .wait)) left)
 unfolding fed
 fed-one n p left = refl
 

@@ -3,9 +3,10 @@
 use mathlib.Core.Path.{_≡_}
 use mathlib.Core.Bool.{Bool, true, false, cond}
 use mathlib.Core.List.{List}
-use Prim.Native.Nat.{ℕ, zero, suc, _≤_}
+use Prim.Native.Nat.{ℕ, zero, suc, _+_, _*_, _<_, _≤_}
 use lib.Dec.{ltb, eqb}
 use lib.ListN.{length, take, drop, replicate}
+use Rattle.heads.specs.Limits.{mostPoints}
 use Rattle.ledger.specs.States.{noState}
 use Rattle.ledger.specs.Operations.{openOf, addOf}
 use Rattle.ledger.specs.declared.State.{State}
@@ -98,9 +99,9 @@ fed (suc n) p left = fed n (feedOf p left) (drop (dueOf (p .wait)) left)
 abbrev pub endingFed : Progress → Ending
 endingFed p = record { refusal = p .refusal; state = p .state }
 
--- two feedings for the head, the calendar and each of at most 10,000 points, and one for the end
+-- two feedings for the head, the calendar and each of at most so many points, and one for the end
 abbrev pub mostFeedings : ℕ
-mostFeedings = 20_005
+mostFeedings = 2 * (2 + mostPoints) + 1
 
 -- FIELD BY FIELD: a book that is fed so ends as the whole book does
 abbrev pub FieldByField : Type 0
@@ -110,3 +111,7 @@ FieldByField = (book : List ℕ) (n : ℕ) → mostFeedings ≤ n
 -- only the due bytes are looked at
 abbrev pub DueOnly : Type 0
 DueOnly = (p : Progress) (left : List ℕ) → feedOf p (take (dueOf (p .wait)) left) ≡ feedOf p left
+
+-- fewer bytes than are due end the reading: what comes in parts is one book, cut into what was due each time
+abbrev pub FewerEnd : Type 0
+FewerEnd = (p : Progress) (bytes : List ℕ) → length bytes < dueOf (p .wait) → feedOf p bytes .wait ≡ Nothing

@@ -3,7 +3,8 @@ ghost use mathlib.Core.Path.{_≡_};
 ghost use mathlib.Core.Bool.{Bool, true, false};
 ghost use Prim.Native.Nat.{ℕ, _≤_};
 ghost use lib.ListN.{length};
-ghost use Rattle.feeding.specs.Feeding.{dueOf, isOver, startOf, refusedAt, ended, headerFed, pointOrEnd, going, got, valueFed, endFed, feedOf};
+ghost use Rattle.feeding.specs.Feeding.{dueOf, isOver, startOf, mostFeedings, refusedAt};
+ghost use Rattle.feeding.specs.Feeding.{headerFed, pointOrEnd, going, got, valueFed, endFed, feedOf};
 ghost use Rattle.fields.specs.declared.Due.the-variants.{Head, Calendar, Point};
 use fields::Due;
 use ledger::State;
@@ -48,6 +49,13 @@ pub fn is_over(progress: Progress) -> bool
         Wait::End => false,
         Wait::Nothing => true,
     }
+}
+
+// How many feedings the longest book takes.
+pub fn most_feedings() -> u32
+    ensures { λ r. ⌜ r ≡ mostFeedings ⌝ }
+{
+    2 * (2 + heads::MOST_POINTS) + 1
 }
 
 // Before the first byte.

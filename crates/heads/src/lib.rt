@@ -18,9 +18,9 @@ const LEAST_CONTRACT: u64 = 1000;
 
 const MOST_CONTRACT: u64 = 10000000;
 
-const LEAST_POINTS: u64 = 1;
+const LEAST_POINTS: u32 = 1;
 
-const MOST_POINTS: u64 = 10000;
+pub const MOST_POINTS: u32 = 10000;
 
 // Tags and lengths of the values of a head and a calendar (specs/Heads).
 pub const HEAD_TAG: u8 = 1;
@@ -160,7 +160,7 @@ pub fn contract_refusal(contract: u64) -> u32
 }
 
 // A list has 1 to 10,000 points.
-pub fn count_refusal(count: u64) -> u32
+pub fn count_refusal(count: u32) -> u32
     ensures { λ r. ⌜ r ≡ firstOf (countRow counts count) ⌝ }
 {
     match count {
@@ -190,7 +190,7 @@ pub fn content_refusal(head: Head, marks: [u8; 30]) -> u32
     if contract != refusals::ACCEPTED {
         return contract;
     }
-    let count = count_refusal(head.count as u64);
+    let count = count_refusal(head.count);
     if count != refusals::ACCEPTED {
         return count;
     }

@@ -1,4 +1,6 @@
+pub mod Moving
 pub mod Taking
 pub mod Sound
-pub mod TotalBounds
+pub mod Totals
 pub mod AddSteps
+pub mod Within

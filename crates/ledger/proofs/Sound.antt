@@ -7,30 +7,31 @@ use Prim.Native.Nat.{ℕ, _+_, _*_, _<_, _≤_}
 use native.Mathlib.Decide.{ℕ-discrete}
 use native.Mathlib.Omega.{arith}
 use lib.Dec.{T, ltb, eqb}
-use lib.IntN.{ℤ, natAbs, _+ℤ_}
+use lib.IntN.{pos, natAbs}
+use lib.ListN.{getD}
 use mir.Facts.{ltb-no, no-ltb, no-eqb}
 use borrow.Author.Tests.{eqb-true, eq-eqb, ne-eqb, not-false}
 use Rattle.numbers.specs.Lists.{any}
 use Rattle.numbers.specs.Refusals.{firstOf}
 use Rattle.numbers.specs.PointNumbers.{isNumber}
-use Rattle.integers.proofs.Machine.{sum-abs}
 use Rattle.calendar.specs.Dates.{isDate}
 use Rattle.heads.specs.Limits.{mostResult}
 use Rattle.heads.specs.Heads.{headOf, contentRefusal, openingRefusal}
-use Rattle.points.specs.Points.{numberOf}
-use Rattle.figures.specs.SlotTotals.{plus}
-use Rattle.ledger.specs.States.{opened, noState, isUnsound, taken}
+use Rattle.points.specs.Points.{kindOf, numberOf}
+use Rattle.ledger.specs.States.{opened, noState, slotTotals, isUnsound, taken}
 use Rattle.figures.specs.Figures.{figuresOf, noFigures}
-use Rattle.ledger.specs.Operations.{openOf, pointTests, pointRefusal, addingRefusal, resultsOf, addOf, closingRefusal, closeOf}
+use Rattle.ledger.specs.Operations.{openOf, pointTests, pointRefusal, addingTests, addingRefusal, resultsOf, addOf, closingRefusal, closeOf}
 use Rattle.heads.specs.declared.Head.{Head}
 use Rattle.ledger.specs.declared.State.{State}
 use Rattle.ledger.specs.declared.Opened.{Opened}
 use Rattle.ledger.specs.declared.Added.{Added}
 use Rattle.ledger.specs.declared.Closed.{Closed}
+use Rattle.numbers.proofs.Refusals.{untold}
 use Rattle.numbers.proofs.Tests.{noneOf, none-cons, no-false}
 use Rattle.heads.proofs.Opening.{opening-content, opens}
-use Rattle.results.proofs.Bounds.{isBeyond}
-use Rattle.ledger.proofs.Taking.{takes, results-small}
+use Rattle.results.proofs.Bounds.{isBeyond, none-beyond}
+use Rattle.ledger.proofs.Moving.{plus-small}
+use Rattle.ledger.proofs.Taking.{Given, takes, results-small}
 use Rattle.ledger.specs.Calls.{Call, adding, closing, Reply, refused, accepted, closed, replyOf, replies, program}
 
 -- ---- the answers of the operations, by the refusal
@@ -77,7 +78,7 @@ module _ (state : State) where
   close-refusal = told {A = Closed} (λ c. c .refusal) (closingRefusal state) _ _ refl refl
 
   pub close-good : closingRefusal state ≡ 0
-      → closeOf state ≡ record { refusal = 0; figures = figuresOf (state .head .contract) (state .totals) (state .points) }
+      → closeOf state ≡ record { refusal = 0; figures = figuresOf (state .head .contract) (slotTotals state) (state .points) }
   unfolding closeOf
   close-good e = simp (eq-eqb _ _ e)
 
@@ -90,7 +91,7 @@ module _ (state : State) where
 pub record Sound (state : State) : Type 0 where
   pub content : contentRefusal (state .head) (state .marks) ≡ 0
   pub room : state .points ≤ state .head .count
-  pub totals : T (noneOf (isBeyond (mostResult * state .points)) (state .totals))
+  pub totals : T (noneOf (isBeyond (mostResult * state .points)) (slotTotals state))
   pub last : T (not (ltb 0 (state .points) && not (isNumber (state .last))))
 
 no-row : (a b c d : Bool) → (a || b || c || d ≡ false) ↔ ((a ≡ false) × T (not b) × T (not c) × T (not d))
@@ -102,11 +103,11 @@ no-row false false false d = (λ e. (refl, tt, tt, rw e tt), λ t. no-false d (t
 module _ (state : State) where
   rows : (isUnsound state ≡ false) ↔ ((not (eqb (contentRefusal (state .head) (state .marks)) 0) ≡ false)
       × T (not (ltb (state .head .count) (state .points)))
-      × T (noneOf (isBeyond (mostResult * state .points)) (state .totals))
+      × T (noneOf (isBeyond (mostResult * state .points)) (slotTotals state))
       × T (not (ltb 0 (state .points) && not (isNumber (state .last)))))
   unfolding isUnsound
   rows = no-row (not (eqb (contentRefusal (state .head) (state .marks)) 0)) (ltb (state .head .count) (state .points))
-      (any (isBeyond (mostResult * state .points)) (state .totals)) (ltb 0 (state .points) && not (isNumber (state .last)))
+      (any (isBeyond (mostResult * state .points)) (slotTotals state)) (ltb 0 (state .points) && not (isNumber (state .last)))
 
   pub sound : isUnsound state ≡ false → Sound state
   sound e = let r = rows .0 e in record { content = eqb-true _ _ (not-false _ (r .0)); room = ltb-no (r .1); totals = r .2; last = r .3 }
@@ -114,24 +115,18 @@ module _ (state : State) where
   pub sound-is : Sound state → isUnsound state ≡ false
   sound-is s = rows .1 (rw (s .content) refl, no-ltb (s .room), s .totals, s .last)
 
+-- its slot totals are far from the ends of their type
+pub total-small : (state : State) → Sound state → (i : ℕ) → natAbs (getD (slotTotals state) i (pos 0)) ≤ 1000000000000000
+total-small state s i =
+    let o = opens (state .head) (state .marks) (s .content) in
+    omega (arith, none-beyond (mostResult * state .points) (slotTotals state) (s .totals) i)
+
 -- ---- along a run
 
 module _ (head calendar : List ℕ) (accepted : openingRefusal head calendar ≡ 0) where
   pub opened-sound : Sound (opened (headOf head) calendar)
   unfolding any
   opened-sound = record { content = opening-content head calendar accepted; room = omega arith; totals = tt; last = tt }
-
-plus-small : (k l : ℕ) (xs ys : List ℤ) → T (noneOf (isBeyond k) xs) → T (noneOf (isBeyond l) ys) → T (noneOf (isBeyond (k + l)) (plus xs ys))
-unfolding plus any
-plus-small k l [] ys p q = tt
-plus-small k l (x ∷ xs) [] p q = tt
-plus-small k l (x ∷ xs) (y ∷ ys) p q =
-    let f = none-cons (isBeyond k) x xs .0 p in
-    let g = none-cons (isBeyond l) y ys .0 q in
-    let small-x : natAbs x ≤ k = ltb-no (f .0) in
-    let small-y : natAbs y ≤ l = ltb-no (g .0) in
-    let small : natAbs (x +ℤ y) ≤ k + l = omega (arith, sum-abs x y) in
-    none-cons (isBeyond (k + l)) (x +ℤ y) (plus xs ys) .1 (no-ltb small, plus-small k l xs ys (f .1) (g .1))
 
 shown : (some number : Bool) → T number → T (not (some && not number))
 shown true true t = tt
@@ -149,13 +144,13 @@ module _ (state : State) (s : Sound state) (tag : ℕ) (value : List ℕ) (place
   unfolding taken
   taken-sound e =
       let more : mostResult * (state .points + 1) ≡ mostResult * state .points + mostResult = omega arith in
-      let t = takes (state .head) (state .marks) (state .points) (state .last) tag value places e in
+      let g = takes (state .head) (state .points) (state .last) tag value places (state .marks) e in
       record {
         content = s .content;
         room = omega arith;
-        totals = rw more (plus-small (mostResult * state .points) mostResult (state .totals) (resultsOf state tag value) (s .totals)
-            (results-small t (opens (state .head) (state .marks) (s .content))));
-        last = shown (ltb 0 (state .points + 1)) (isNumber (numberOf value)) (t .number);
+        totals = rw more (plus-small (mostResult * state .points) mostResult (slotTotals state) (resultsOf state tag value) (s .totals)
+            (results-small g (state .marks) (opens (state .head) (state .marks) (s .content))));
+        last = shown (ltb 0 (state .points + 1)) (isNumber (numberOf value)) (g .number);
       }
 
   -- adding keeps it
@@ -169,6 +164,15 @@ module _ (state : State) (s : Sound state) (tag : ℕ) (value : List ℕ) (place
 pub closing-sound : (state : State) → Sound state → closingRefusal state ≡ cond (ltb (state .points) (state .head .count)) 20 0
 unfolding closingRefusal
 closing-sound state s = rw (sound-is state s)
+
+-- an accepted adding was given a sound state and a point to take
+module _ (state : State) (tag : ℕ) (value : List ℕ) (places : ℕ) (e : addingRefusal state tag value places ≡ 0) where
+  pub accepted-sound : Sound state
+  unfolding addingRefusal
+  accepted-sound = sound state (untold (addingTests state tag value places) tt e 9)
+
+  pub accepted-given : Given (state .head) (state .points) (kindOf tag) value places
+  accepted-given = takes (state .head) (state .points) (state .last) tag value places (state .marks) (sym (adding-sound state accepted-sound tag value places) ∙ e)
 
 -- the state of zeros, which a refused opening gives, is not sound
 pub nothing-unsound : isUnsound noState ≡ true

@@ -1,8 +1,9 @@
 -- A sequence of calls on one test, and what the program answers to each (document 01, 'Closing figures').
 use mathlib.Core.Bool.{cond}
-use mathlib.Core.List.{List, [], _∷_}
+use mathlib.Core.List.{List, [], _∷_, _++_}
 use Prim.Native.Nat.{ℕ}
 use lib.Dec.{eqb}
+use Rattle.points.specs.Points.{Point}
 use Rattle.ledger.specs.Operations.{openOf, addOf, closeOf}
 use Rattle.ledger.specs.declared.State.{State}
 use Rattle.figures.specs.declared.Figures.{Figures}
@@ -31,3 +32,22 @@ replies state (closing ∷ calls) = replyOf (closeOf state .refusal) (closed (cl
 -- 'The sequence has one opening, at its start.'
 unfoldable pub program : List ℕ → List ℕ → List Call → List Reply
 program head calendar calls = replyOf (openOf head calendar .refusal) accepted ∷ replies (openOf head calendar .state) calls
+
+-- the state after calls: a refused adding gives back the one that it was given
+unfoldable pub stateAfter : State → List Call → State
+stateAfter state [] = state
+stateAfter state (adding tag value places ∷ calls) = stateAfter (addOf state tag value places .state) calls
+stateAfter state (closing ∷ calls) = stateAfter state calls
+
+-- the point that a call takes: that of an adding which is accepted
+abbrev pub pointOf : Call → Reply → List Point
+pointOf (adding tag value places) accepted = record { tag = tag; value = value } ∷ []
+pointOf (adding tag value places) (refused refusal) = []
+pointOf (adding tag value places) (closed figures) = []
+pointOf closing reply = []
+
+-- the points taken by calls, from what is answered to each
+unfoldable pub pointsTaken : List Call → List Reply → List Point
+pointsTaken [] replies = []
+pointsTaken (call ∷ calls) [] = []
+pointsTaken (call ∷ calls) (reply ∷ replies) = pointOf call reply ++ pointsTaken calls replies

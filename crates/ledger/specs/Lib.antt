@@ -1,3 +1,5 @@
 pub mod States
 pub mod Operations
 pub mod Calls
+pub mod Totals
+pub mod Within

@@ -10,7 +10,7 @@ use Rattle.numbers.specs.PointNumbers.{below}
 use Rattle.heads.specs.Heads.{headOf, openingRefusal}
 use Rattle.points.specs.Points.{kindOf, numberOf, formRows, numberRow, valueRows}
 use Rattle.results.specs.SlotResults.{lacksDays, results}
-use Rattle.ledger.specs.States.{opened, noState, isUnsound, taken}
+use Rattle.ledger.specs.States.{opened, noState, slotTotals, isUnsound, taken}
 use Rattle.figures.specs.Figures.{figuresOf, noFigures}
 use Rattle.heads.specs.declared.Head.{Head}
 use Rattle.ledger.specs.declared.State.{State}
@@ -110,5 +110,5 @@ unfoldable pub closeOf : State → Closed
 closeOf state =
     let refusal = closingRefusal state in
     cond (eqb refusal 0)
-    (record { refusal = 0; figures = figuresOf (state .head .contract) (state .totals) (state .points) })
+    (record { refusal = 0; figures = figuresOf (state .head .contract) (slotTotals state) (state .points) })
     (record { refusal = refusal; figures = noFigures })

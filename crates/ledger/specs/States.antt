@@ -24,13 +24,17 @@ noHead = record { year = 0; month = 0; day = 0; slot = 0; losses = replicate 3 0
 abbrev pub noState : State
 noState = record { head = noHead; marks = replicate 30 0; points = 0; totals = replicate 6 (pos 0); last = replicate 22 0 }
 
+-- THE SLOT TOTALS of a state: six, in Wh. Whoever reads them reads them here.
+abbrev pub slotTotals : State → List ℤ
+slotTotals state = state .totals
+
 -- 9: 'a state with contents that opening refuses, more points taken than its count, a slot total beyond 4,000,000,000 × points taken on
 -- either side of zero, or, with points taken, a last number that is not an allowed point number'
 unfoldable pub isUnsound : State → Bool
 isUnsound state =
     not (eqb (contentRefusal (state .head) (state .marks)) 0)
     || ltb (state .head .count) (state .points)
-    || any (λ total. ltb (mostResult * state .points) (natAbs total)) (state .totals)
+    || any (λ total. ltb (mostResult * state .points) (natAbs total)) (slotTotals state)
     || ltb 0 (state .points) && not (isNumber (state .last))
 
 -- 'it adds the results to the state's six slot totals, raises points taken by one and keeps the number'
@@ -39,6 +43,6 @@ taken state found number = record {
   head = state .head;
   marks = state .marks;
   points = state .points + 1;
-  totals = plus (state .totals) found;
+  totals = plus (slotTotals state) found;
   last = number;
 }

@@ -6,12 +6,15 @@ use mathlib.Core.List.{List, [], _∷_, _++_}
 use Prim.Native.Nat.{ℕ, suc, _≤_}
 use lib.Dec.{eqb}
 use lib.IntN.{ℤ}
+use lib.ListN.{length}
 use Rattle.heads.specs.declared.Head.{Head}
-use Rattle.ledger.specs.Operations.{closeOf}
+use Rattle.ledger.specs.States.{slotTotals}
 use Rattle.ledger.specs.declared.State.{State}
+use Rattle.ledger.specs.declared.Closed.{Closed}
 use Rattle.figures.specs.declared.Figures.{Figures}
-use Rattle.book.specs.Reading.{readBook}
-use Rattle.book.specs.Endings.{bookEnding}
+use Rattle.book.specs.Reading.{good, Book, readBook}
+use Rattle.book.specs.Endings.{bookEnding, closedAfter}
+use Rattle.book.specs.Settling.{resultLength, resultBytes, settlingRefusal, settlingResult}
 use Rattle.book.specs.declared.Ending.{Ending}
 use Rattle.feeding.specs.Feeding.{startOf, fed, endingFed, mostFeedings}
 use Rattle.lines.specs.Ascii.{ascii}
@@ -53,21 +56,40 @@ capacityLines figures =
 
 abbrev pub settledText : State → Figures → List ℕ
 settledText state figures =
-    dateLine (state .head) ++ (line "points " (decimal (figures .points)) ++ (slotLines 1 (state .totals) ++ (settledLines figures ++ capacityLines figures)))
+    dateLine (state .head) ++ (line "points " (decimal (figures .points)) ++ (slotLines 1 (slotTotals state) ++ (settledLines figures ++ capacityLines figures)))
 
 abbrev pub refusedText : ℕ → List ℕ
 refusedText refusal = line "refused " (decimal refusal)
 
--- THE TEXT of a book whose reading has ended
+-- by what closing answers
+abbrev pub textBy : State → Closed → List ℕ
+textBy state closed = cond (eqb (closed .refusal) 0) (settledText state (closed .figures)) (refusedText (closed .refusal))
+
+-- THE TEXT of a book whose reading has ended: a refusal, of the reading or of closing, leaves no figures to print
 unfoldable pub textOf : Ending → List ℕ
-textOf ending =
-    cond (eqb (ending .refusal) 0)
-    (settledText (ending .state) (closeOf (ending .state) .figures))
-    (refusedText (ending .refusal))
+textOf ending = textBy (ending .state) (closedAfter ending)
+
+-- the bytes that have room for any text
+abbrev pub textRoom : ℕ
+textRoom = 640
 
 -- the text of a book
 abbrev pub bookText : List ℕ → List ℕ
 bookText book = textOf (bookEnding (readBook book))
+
+-- THE TEXT TELLS what Whole book answers: `refused N` with its number N, or the figures whose words it writes, with the date and the slot
+-- totals of the state after the last point
+pub record Tells (book result : List ℕ) : Type 0 where
+  pub refused : (settlingRefusal book (length result) ≡ 0 → ⊥) → bookText book ≡ refusedText (settlingRefusal book (length result))
+  pub settled : settlingRefusal book (length result) ≡ 0
+      → (r : Book)
+      × (figures : Figures)
+      × (readBook book ≡ good r)
+      × (bookText book ≡ settledText (r .state) figures)
+      × (settlingResult book result ≡ resultBytes figures)
+
+abbrev pub TextTells : Type 0
+TextTells = (book result : List ℕ) → length result ≡ resultLength → Tells book result
 
 -- PRINTED FIELD BY FIELD: a book that is fed so has the text of the whole book
 abbrev pub PrintedFieldByField : Type 0

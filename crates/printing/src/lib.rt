@@ -3,13 +3,16 @@ ghost use mathlib.Core.Path.{_≡_};
 ghost use Prim.Native.Nat.{_+_, _≤_};
 ghost use lib.ListN.{length};
 ghost use Rattle.io.specs.Counts.{Counts};
-ghost use Rattle.ledger.specs.Operations.{closeOf};
 ghost use Rattle.numbers.specs.Placing.{atFront, Placed};
-ghost use Rattle.printing.specs.Printed.{dashed, date, dateLine, slotLines, settledLines, bidLine, capacityLines, settledText, textOf};
+ghost use Rattle.printing.specs.Printed.{dashed, date, dateLine, slotLines, settledLines, bidLine, capacityLines};
+ghost use Rattle.printing.specs.Printed.{settledText, textOf, textRoom};
 use book::Ending;
 use figures::Figures;
 use heads::Head;
 use ledger::State;
+
+// The bytes that have room for any text.
+pub const TEXT_ROOM: usize = 640;
 
 fn put_dashed(number: u8, at: usize, out: &mut [u8]) -> usize
     requires { ⌜ at + 22 ≤ length (now out) ⌝ }
@@ -86,12 +89,10 @@ fn put_capacity_lines(figures: Figures, at: usize, out: &mut [u8]) -> usize
     put_bid(figures.bid, surplus, out)
 }
 
-fn put_settled(state: State, at: usize, out: &mut [u8]) -> usize
+fn put_settled(state: State, figures: Figures, at: usize, out: &mut [u8]) -> usize
     requires { ⌜ at + 594 ≤ length (now out) ⌝ }
-    ensures { λ r. ⌜ Placed (settledText state (closeOf state .figures)) at (now (out .entry)) r (now (out .exit)) ⌝ }
+    ensures { λ r. ⌜ Placed (settledText state figures) at (now (out .entry)) r (now (out .exit)) ⌝ }
 {
-    let closed = ledger::close(state);
-    let figures = closed.figures;
     let head = state.head;
     let totals = state.totals;
     let dated = put_date_line(head, at, out);
@@ -102,14 +103,17 @@ fn put_settled(state: State, at: usize, out: &mut [u8]) -> usize
 }
 
 // Puts the text at the front of the lent bytes, which have room for any, and answers how long it is.
-pub fn write_text(ending: Ending, out: &mut [u8; 640]) -> usize
-    ensures { λ r. ⌜ (r ≡ length (textOf ending)) × (r ≤ 640) × (now (out .exit) ≡ atFront (textOf ending) (now (out .entry))) ⌝ }
+pub fn write_text(ending: Ending, out: &mut [u8; TEXT_ROOM]) -> usize
+    ensures { λ r. ⌜ (r ≡ length (textOf ending)) × (r ≤ textRoom) ⌝ }
+    ensures { λ _. ⌜ now (out .exit) ≡ atFront (textOf ending) (now (out .entry)) ⌝ }
     ensures { λ r. ⌜ Counts r (now (out .exit)) ⌝ }
 {
-    let refusal = ending.refusal;
-    let state = ending.state;
+    let closed = book::settling::close(ending);
+    let refusal = closed.refusal;
     if refusal != refusals::ACCEPTED {
         return lines::put_line(b"refused ", refusal as u64, 0, out);
     }
-    put_settled(state, 0, out)
+    let state = ending.state;
+    let figures = closed.figures;
+    put_settled(state, figures, 0, out)
 }

@@ -5,15 +5,17 @@ ghost use lib.ListN.{length};
 ghost use Rattle.io.specs.Counts.{Counts};
 ghost use Rattle.numbers.specs.Placing.{atFront};
 ghost use Rattle.feeding.specs.Feeding.{endingFed};
+ghost use Rattle.feeding.specs.Coming.{FedWhole};
 ghost use Rattle.printing.specs.Printed.{textOf};
 use book::Ending;
 use feeding::Progress;
 use input::Got;
 use libc::STDERR_FILENO;
 use libc::STDOUT_FILENO;
+use printing::TEXT_ROOM;
 
-// Two feedings for the head, the calendar and each of at most 10,000 points, and one for the end.
-const MOST_FEEDINGS: u32 = 20005;
+// As much as is due at a time, at most.
+const MOST_DUE: usize = 5975;
 
 // Fills the first n of the lent bytes.
 fn fill_front(buffer: &mut [u8], n: usize) -> Got
@@ -24,8 +26,9 @@ fn fill_front(buffer: &mut [u8], n: usize) -> Got
 }
 
 // The text of a book that was fed to its end, at the front of the lent bytes, and how long it is.
-fn put_text(progress: Progress, out: &mut [u8; 640]) -> usize
-    ensures { λ r. ⌜ (r ≡ length (textOf (endingFed progress))) × (now (out .exit) ≡ atFront (textOf (endingFed progress)) (now (out .entry))) ⌝ }
+fn put_text(progress: Progress, out: &mut [u8; TEXT_ROOM]) -> usize
+    ensures { λ r. ⌜ r ≡ length (textOf (endingFed progress)) ⌝ }
+    ensures { λ r. ⌜ now (out .exit) ≡ atFront (textOf (endingFed progress)) (now (out .entry)) ⌝ }
     ensures { λ r. ⌜ Counts r (now (out .exit)) ⌝ }
 {
     let refusal = progress.refusal;
@@ -34,9 +37,11 @@ fn put_text(progress: Progress, out: &mut [u8; 640]) -> usize
     printing::write_text(ending, out)
 }
 
-// Writes the text of the book in one go.
-fn report(progress: Progress) {
-    let mut text = [0u8; 640];
+// Writes the text of a whole book in one go; of what was not fed whole there is none.
+fn report(progress: Progress)
+    requires { ⌜ FedWhole progress ⌝ }
+{
+    let mut text = [0u8; TEXT_ROOM];
     let size = put_text(progress, &mut text);
     if !io::write_all(STDOUT_FILENO, &text[..size]) {
         io::write_all(
@@ -47,11 +52,10 @@ fn report(progress: Progress) {
 }
 
 fn main() {
-    let mut buffer = [0u8; 5975];
+    let mut buffer = [0u8; MOST_DUE];
     let mut progress = feeding::start();
-    let mut turns: u32 = MOST_FEEDINGS;
+    let mut turns = feeding::most_feedings();
     while 0 < turns {
-        turns -= 1;
         let due = feeding::due(progress);
         let got = fill_front(&mut buffer, due);
         if got.failed {
@@ -64,8 +68,10 @@ fn main() {
         let count = got.count;
         progress = feeding::feed(progress, &buffer[0..count]);
         if feeding::is_over(progress) {
-            turns = 0;
+            report(progress);
+            return;
         }
+        turns -= 1;
     }
     report(progress);
 }

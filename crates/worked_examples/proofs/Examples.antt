@@ -1,6 +1,6 @@
 -- The starred examples hold, by computing. Assumes nothing.
 use mathlib.Core.Path.{_≡_, refl}
-use mathlib.Core.List.{[], _∷_}
+use mathlib.Core.List.{[], _∷_, _++_}
 use lib.IntN.{pos, negℤ}
 use lib.ListN.{replicate}
 use Rattle.numbers.specs.Lists.{run, sum, filter, any, gather}
@@ -15,7 +15,7 @@ use Rattle.results.specs.SlotResults.{quotients}
 use Rattle.ledger.specs.States.{isUnsound}
 use Rattle.figures.specs.Figures.{figuresOf}
 use Rattle.ledger.specs.Operations.{openOf, addingRefusal, addOf, placesOf}
-use Rattle.worked_examples.specs.Examples.{CheckedExamples, examples, highVoltage, placesWith, stateWith, plain, six}
+use Rattle.worked_examples.specs.Examples.{StarredExamples, examples, highVoltage, placesWith, baselinesWith, stateWith, plain, six}
 
 C : plain (addOf (stateWith (replicate 30 1)) 3 (highVoltage 1_200 240) 6 .refusal ∷ []) ≡ plain (18 ∷ [])
 unfolding run sum filter any gather bytesOf digits same isNumber below isDate dayCount firstLarge windowSums slotSums daySums earlierUse walk lowest used chosen headOf contentRefusal openingRefusal quotients isUnsound openOf addingRefusal highVoltage addOf
@@ -33,10 +33,10 @@ J : placesWith 1_200 1_201 ≡ six (negℤ (pos 2))
 unfolding run sum filter any gather bytesOf digits same isNumber below isDate dayCount firstLarge windowSums slotSums daySums earlierUse walk lowest used chosen headOf contentRefusal openingRefusal quotients isUnsound openOf addingRefusal highVoltage placesOf placesWith
 J = refl
 
-K : placesWith 0 240 ≡ six (negℤ (pos 250))
-unfolding run sum filter any gather bytesOf digits same isNumber below isDate dayCount firstLarge windowSums slotSums daySums earlierUse walk lowest used chosen headOf contentRefusal openingRefusal quotients isUnsound openOf addingRefusal highVoltage placesOf placesWith
+K : plain (baselinesWith 0 240) ++ placesWith 0 240 ≡ six (pos 0) ++ six (negℤ (pos 250))
+unfolding run sum filter any gather bytesOf digits same isNumber below isDate dayCount firstLarge windowSums slotSums daySums earlierUse walk lowest used chosen headOf contentRefusal openingRefusal quotients isUnsound openOf addingRefusal highVoltage placesOf placesWith baselinesWith
 K = refl
 
-pub checked-examples : CheckedExamples
+pub starred-examples : StarredExamples
 unfolding examples run sum filter dayCount walk lowest used chosen sumℤ figuresOf
-checked-examples = (refl, (refl, (C, (refl, (refl, (refl, (refl, (H, (I, (J, (K, (refl, tt))))))))))))
+starred-examples = (refl, (refl, (C, (refl, (refl, (refl, (refl, (H, (I, (J, (K, (refl, (refl, (refl, tt))))))))))))))

@@ -1,3 +1,4 @@
 pub mod Examples
 pub mod ExampleM
-pub mod Sequence
+pub mod Sequences
+pub mod WrongPrograms

@@ -2,7 +2,7 @@
 use mathlib.Core.Path.{_≡_}
 use mathlib.Core.Bool.{cond, _&&_}
 use mathlib.Core.List.{List, [], _∷_, _++_, map}
-use Prim.Native.Nat.{ℕ, _*_, _%_}
+use Prim.Native.Nat.{ℕ, _%_}
 use lib.Dec.{leb}
 use lib.IntN.{ℤ, pos, negℤ}
 use lib.ListN.{length, take, replicate}
@@ -10,9 +10,13 @@ use Rattle.numbers.specs.Lists.{run, gather}
 use Rattle.numbers.specs.Words.{bytesOf}
 use Rattle.calendar.specs.Dates.{dayCount}
 use Rattle.calendar.specs.Eligible.{ofDay, eligibleDays}
+use Rattle.readings.specs.Readings.{daySums, earlierUse}
 use Rattle.baseline.specs.Choosing.{standing, chosen}
+use Rattle.baseline.specs.Baseline.{chosenDays, baseline}
+use Rattle.points.specs.Points.{consumer, readingsOf}
 use Rattle.figures.specs.Figures.{figuresOf}
 use Rattle.ledger.specs.Operations.{openOf, addOf, placesOf}
+use Rattle.figures.specs.declared.Figures.{Figures}
 use Rattle.ledger.specs.declared.State.{State}
 
 pub record Example : Type 0 where
@@ -50,13 +54,20 @@ highVoltage earlier used =
 unfoldable pub placesWith : ℕ → ℕ → List ℤ
 placesWith earlier used = placesOf (stateWith (replicate 30 0)) 3 (highVoltage earlier used) (replicate 6 (pos 0))
 
--- the closing figures of a total
-abbrev pub settled : ℤ → ℤ
-settled total = figuresOf 1_000 (total ∷ replicate 5 (pos 0)) 1 .settled
+-- its six baselines
+unfoldable pub baselinesWith : ℕ → ℕ → List ℕ
+baselinesWith earlier used =
+    let readings = readingsOf consumer (highVoltage earlier used) in
+    let days = chosenDays (dayCount 2024 8 7) (replicate 30 0) readings 26 in
+    run (baseline (daySums readings days 26) (earlierUse readings 26)) 0 6
 
--- whether an expected capacity may be bid: 1 or 0
-abbrev pub bid : ℕ → ℤ
-bid expected = cond (figuresOf 1_000 (pos (3_000 * expected) ∷ replicate 5 (pos 0)) 1 .bid) (pos 1) (pos 0)
+-- the closing figures of a total
+abbrev pub figuresWith : ℤ → Figures
+figuresWith total = figuresOf 1_000 (total ∷ replicate 5 (pos 0)) 1
+
+-- the expected capacity and whether it may be bid: 1 or 0
+abbrev pub expectedAndBid : Figures → List ℤ
+expectedAndBid figures = pos (figures .expected) ∷ cond (figures .bid) (pos 1) (pos 0) ∷ []
 
 -- six times the same
 abbrev pub six : ℤ → List ℤ
@@ -82,10 +93,13 @@ examples =
     ∷ record { given = placesWith 1_200 240; told = six (pos 1_000) }
     ∷ record { given = placesWith 1_200 241; told = six (pos 998) }
     ∷ record { given = placesWith 1_200 1_201; told = six (negℤ (pos 2)) }
-    -- K: as H, but the test day's earlier readings all 0
-    ∷ record { given = placesWith 0 240; told = six (negℤ (pos 250)) }
-    -- L: totals 2,999 and −1; expected 999 and 1,000
-    ∷ record { given = settled (pos 2_999) ∷ settled (negℤ (pos 1)) ∷ bid 999 ∷ bid 1_000 ∷ []; told = pos 0 ∷ negℤ (pos 1) ∷ pos 0 ∷ pos 1 ∷ [] }
+    -- K: as H, but the test day's earlier readings all 0: baseline 0, result −250
+    ∷ record { given = plain (baselinesWith 0 240) ++ placesWith 0 240; told = six (pos 0) ++ six (negℤ (pos 250)) }
+    -- L: total 2,999: settled 0; total −1: settled −1
+    ∷ record { given = figuresWith (pos 2_999) .settled ∷ figuresWith (negℤ (pos 1)) .settled ∷ []; told = pos 0 ∷ negℤ (pos 1) ∷ [] }
+    -- L: expected 999: bid no; 1,000: yes
+    ∷ record { given = expectedAndBid (figuresWith (pos 2_997_000)); told = pos 999 ∷ pos 0 ∷ [] }
+    ∷ record { given = expectedAndBid (figuresWith (pos 3_000_000)); told = pos 1_000 ∷ pos 1 ∷ [] }
     ∷ []
 
 -- what is given is what is told, in each of some examples
@@ -93,6 +107,6 @@ abbrev pub Hold : List Example → Type 0
 Hold [] = Unit {0}
 Hold (e ∷ es) = (e .given ≡ e .told) × Hold es
 
--- THE CHECKED EXAMPLES
-abbrev pub CheckedExamples : Type 0
-CheckedExamples = Hold examples
+-- THE STARRED EXAMPLES
+abbrev pub StarredExamples : Type 0
+StarredExamples = Hold examples

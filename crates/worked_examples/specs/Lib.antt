@@ -1,2 +1,4 @@
 pub mod Examples
 pub mod ExampleM
+pub mod Sequences
+pub mod WrongPrograms

@@ -42,7 +42,7 @@ abbrev start-4 : tie.Else4 → tie.Start
 start-4 c = start-3 (c .before .before .before)
 
 abbrev start-5 : tie.Else5 → tie.Start
-start-5 c = start-4 (c .before .before .before)
+start-5 c = start-4 (c .before .before)
 
 -- ---- behind a group that is passed the next one tells
 
@@ -70,7 +70,7 @@ count-next c =
 marks-next : (c : tie.Else5) → Told (start-5 c) (markRow (start-5 c .args .t2))
 marks-next c =
     let s = start-5 c in
-    count-next (c .before .before .before)
+    count-next (c .before .before)
     ∙ passes (countRow counts (s .args .head .count)) (markRow (s .args .t2)) (c .before .count-refusal .ensures) tt (c .if5 .left)
 
 -- ---- the ways out
@@ -102,7 +102,7 @@ returns-4 c =
 
 returns-5 : tie.Need-returns-5
 returns-5 c =
-    let at-count = c .before .before .before in
+    let at-count = c .before .before in
     let s = start-4 at-count in
     tells (countRow counts (s .args .head .count)) (markRow (s .args .t2)) (c .before .count-refusal .ensures) (c .if5 .taken)
     ∙ sym (count-next at-count)
@@ -120,7 +120,6 @@ content-refusal-spec =
     (λ c. search needs)
     (λ c κs. search needs)
     returns-4
-    (λ c. search needs)
     (λ c κs. search needs)
     returns-5
     (λ c. search needs)

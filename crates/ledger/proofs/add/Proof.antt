@@ -1,118 +1,105 @@
 -- An early refusal, too few days, and the point taken.
 use mathlib.Core.Path.{_≡_, ap, sym, _∙_}
+use mathlib.Core.Bool.{false}
 use Prim.Native.Nat.{ℕ}
 use native.Mathlib.Omega.{arith}
 use lib.ListN.{length}
+use borrow.Author.Needs.{needs}
 use borrow.Author.Tests.{not-true, not-false}
 use Rattle.points.specs.Points.{kindOf}
+use Rattle.results.specs.SlotResults.{lacksDays, results}
+use Rattle.results.specs.Steps.{foundOf}
 use Rattle.ledger.specs.States.{taken}
-use Rattle.ledger.specs.Operations.{addingRefusal}
+use Rattle.ledger.specs.Operations.{addingRefusal, addOf, placesOf}
+use Rattle.ledger.specs.declared.Added.{Added}
 use Rattle.ledger.proofs.Sound.{add-good, add-bad}
-use Rattle.ledger.proofs.AddSteps.{found-few, found-all, early-told, days-told, days-passed, early-sound, early-known, early-length, early-six, early-fit, early-small, numbered, next-fits, sums-fit, places-bad, places-good}
-use borrow.Author.Needs.{needs}
+use Rattle.ledger.proofs.AddSteps.{Early, early, early-told, found-few, found-all, places-bad, places-good}
 use Rattle.ledger.proofs.add.Statement.{statement}
 use Rattle.ledger.proofs.add.Tie as tie
 
-early-refusal-requires : tie.Need-early-refusal-requires
-early-refusal-requires c κs = search needs
+-- a refused adding: the state and the places are as they were
+module _ (s : tie.Start) where
+  abbrev refusal : ℕ
+  refusal = addingRefusal (s .args .state) (s .args .tag) (s .args .value .now) (length (s .args .places .now))
+
+  refused : (n : ℕ) → refusal ≡ n → (n ≡ 0 → ⊥)
+      → (_≡_ {A = Added} (record { refusal = n; state = s .args .state }) (addOf (s .args .state) (s .args .tag) (s .args .value .now) (length (s .args .places .now))))
+      × (s .args .places .now ≡ placesOf (s .args .state) (s .args .tag) (s .args .value .now) (s .args .places .now))
+  refused n e h =
+      let bad : refusal ≡ 0 → ⊥ = λ z. h (sym e ∙ z) in (
+        ap (λ (k : ℕ). record { refusal = k; state = s .args .state }) (sym e) ∙ sym (add-bad (s .args .state) (s .args .tag) (s .args .value .now) (length (s .args .places .now)) bad),
+        sym (places-bad (s .args .state) (s .args .tag) (s .args .value .now) (s .args .places .now) bad),
+      )
+
+-- behind the early refusals
+abbrev start : tie.Else1 → tie.Start
+start c = c .before .before .before
+
+facts : (c : tie.Else1) → Early (start c .args .state) (start c .args .tag) (start c .args .value .now) (length (start c .args .places .now))
+facts c = early _ _ _ _ (sym (c .before .early-refusal .ensures) ∙ c .if1 .left)
+
+-- behind the choice of days
+module _ (c : tie.Else2) where
+  abbrev passed : tie.Else1
+  passed = c .before .before .before .before
+
+  found : let s = start passed in
+      (lacksDays (s .args .state .head) (s .args .state .marks) (kindOf (s .args .tag)) (s .args .value .now) ≡ false)
+      × (foundOf (s .args .state .head) (s .args .state .marks) (kindOf (s .args .tag)) (s .args .value .now) .found
+      ≡ results (s .args .state .head) (s .args .state .marks) (kindOf (s .args .tag)) (s .args .value .now))
+  found =
+      let s = start passed in
+      found-all (s .args .state .head) (s .args .state .marks) (kindOf (s .args .tag)) (s .args .value .now)
+      (ap (λ a. a .enough) (sym (c .before .results-of .ensures)) ∙ not-false _ (c .if2 .left))
+
+  accepted : refusal (start passed) ≡ 0
+  accepted = facts passed .days ∙ simp (found .0)
 
 returns : tie.Need-returns
 returns c =
-    let s = c .before .before .before .args in
-    let v = s .value .now in
-    let n = length (s .places .now) in
+    let s = c .before .before .before in
     let e = c .before .early-refusal .ensures in
-    let t = early-told (s .state) (s .tag) v n (λ z. c .if1 .taken (e ∙ z)) in
-    let bad : addingRefusal (s .state) (s .tag) v n ≡ 0 → ⊥ = λ z. c .if1 .taken (e ∙ sym t ∙ z) in (
-      ap (λ (k : ℕ). record { refusal = k; state = s .state }) (e ∙ sym t) ∙ sym (add-bad (s .state) (s .tag) v n bad),
-      sym (places-bad (s .state) (s .tag) v (s .places .now) bad),
-    )
+    refused s _ (early-told (s .args .state) (s .args .tag) (s .args .value .now) (length (s .args .places .now)) (λ z. c .if1 .taken (e ∙ z)) ∙ sym e) (c .if1 .taken)
 
 results-of-requires : tie.Need-results-of-requires
-results-of-requires c κs =
-    let s = c .before .before .before .before .before .args in
-    let v = s .value .now in
-    let n = length (s .places .now) in
-    let e = c .before .before .before .early-refusal .ensures in
-    let z = sym e ∙ c .before .before .if1 .left in
-    (early-sound (s .state) (s .tag) v n z .content, early-known (s .state) (s .tag) v n z, early-length (s .state) (s .tag) v n z, early-fit (s .state) (s .tag) v n z, early-small (s .state) (s .tag) v n z)
+results-of-requires c κs = let f = facts (c .before .before) in (f .sound .content, f .given .known, f .given .size, f .given .fit, f .given .small)
 
 returns-2 : tie.Need-returns-2
 returns-2 c =
-    let s = c .before .before .before .before .before .before .before .args in
-    let v = s .value .now in
-    let n = length (s .places .now) in
-    let e = c .before .before .before .before .before .early-refusal .ensures in
-    let z = sym e ∙ c .before .before .before .before .if1 .left in
-    let few = found-few (s .state .head) (s .state .marks) (kindOf (s .tag)) v (ap (λ a. a .enough) (sym (c .before .results-of .ensures)) ∙ not-true _ (c .if2 .taken)) in
-    let t = days-told (s .state) (s .tag) v n z few in
-    let bad : addingRefusal (s .state) (s .tag) v n ≡ 0 → ⊥ = λ z. omega (arith, t, z) in (
-      ap (λ (k : ℕ). record { refusal = k; state = s .state }) (sym t) ∙ sym (add-bad (s .state) (s .tag) v n bad),
-      sym (places-bad (s .state) (s .tag) v (s .places .now) bad),
-    )
+    let passed = c .before .before .before .before in
+    let s = start passed in
+    let few = found-few (s .args .state .head) (s .args .state .marks) (kindOf (s .args .tag)) (s .args .value .now) (ap (λ a. a .enough) (sym (c .before .results-of .ensures)) ∙ not-true _ (c .if2 .taken)) in
+    refused s 18 (facts passed .days ∙ simp few) (λ z. omega arith)
 
 put-requires : tie.Need-put-requires
-put-requires c κs =
-    let s = c .before .before .before .before .before .before .before .before .before .args in
-    let v = s .value .now in
-    let n = length (s .places .now) in
-    let e = c .before .before .before .before .before .before .before .early-refusal .ensures in
-    let z = sym e ∙ c .before .before .before .before .before .before .if1 .left in
-    early-six (s .state) (s .tag) v n z
+put-requires c κs = facts (passed (c .before .before)) .given .six
 
 add-totals-requires : tie.Need-add-totals-requires
 add-totals-requires c κs =
-    let s = c .before .before .before .before .before .before .before .before .before .before .before .before .args in
-    let v = s .value .now in
-    let n = length (s .places .now) in
-    let e = c .before .before .before .before .before .before .before .before .before .before .early-refusal .ensures in
-    let z = sym e ∙ c .before .before .before .before .before .before .before .before .before .if1 .left in
-    let f = found-all (s .state .head) (s .state .marks) (kindOf (s .tag)) v (ap (λ a. a .enough) (sym (c .before .before .before .before .before .before .results-of .ensures)) ∙ not-false _ (c .before .before .before .before .before .if2 .left)) in
-    let r = ap (λ a. a .found) (c .before .before .before .before .before .before .results-of .ensures) ∙ f .1 in
-    let y = days-passed (s .state) (s .tag) v n z (f .0) in
-    λ i. rw r (sums-fit (s .state) (s .tag) v n z y i)
+    let at = c .before .before .before .before .before in
+    λ i. rw (ap (λ a. a .found) (at .before .results-of .ensures) ∙ found at .1) (facts (passed at) .sums i)
 
 number-of-requires : tie.Need-number-of-requires
-number-of-requires c κs =
-    let s = c .before .before .before .before .before .before .before .before .before .before .before .before .before .args in
-    let v = s .value .now in
-    let n = length (s .places .now) in
-    let e = c .before .before .before .before .before .before .before .before .before .before .before .early-refusal .ensures in
-    let z = sym e ∙ c .before .before .before .before .before .before .before .before .before .before .if1 .left in
-    numbered (s .state) (s .tag) v n z
+number-of-requires c κs = facts (passed (c .before .before .before .before .before .before)) .numbered
 
 add-next : tie.Need-add-next
-add-next c =
-    let s = c .before .before .before .before .before .before .before .before .before .before .before .before .before .before .before .args in
-    let v = s .value .now in
-    let n = length (s .places .now) in
-    let e = c .before .before .before .before .before .before .before .before .before .before .before .before .before .early-refusal .ensures in
-    let z = sym e ∙ c .before .before .before .before .before .before .before .before .before .before .before .before .if1 .left in
-    record { fits = next-fits (s .state) (s .tag) v n z }
-
-same-length : tie.Need-same-length
-same-length c = search needs
+add-next c = record { fits = facts (passed (c .before .before .before .before .before .before .before .before)) .next }
 
 returns-3 : tie.Need-returns-3
 unfolding taken
 returns-3 c =
-    let s = c .before .before .before .before .before .before .before .before .before .before .before .before .before .before .before .args in
-    let v = s .value .now in
-    let n = length (s .places .now) in
-    let e = c .before .before .before .before .before .before .before .before .before .before .before .before .before .early-refusal .ensures in
-    let z = sym e ∙ c .before .before .before .before .before .before .before .before .before .before .before .before .if1 .left in
-    let f = found-all (s .state .head) (s .state .marks) (kindOf (s .tag)) v (ap (λ a. a .enough) (sym (c .before .before .before .before .before .before .before .before .before .results-of .ensures)) ∙ not-false _ (c .before .before .before .before .before .before .before .before .if2 .left)) in
-    let r = ap (λ a. a .found) (c .before .before .before .before .before .before .before .before .before .results-of .ensures) ∙ f .1 in
-    let y = days-passed (s .state) (s .tag) v n z (f .0) in (
-      rw (c .before .before .add-totals .ensures, c .before .number-of .ensures, r) (sym (add-good (s .state) (s .tag) v n y)),
-      c .before .before .before .before .before .put .ensures ∙ r ∙ sym (places-good (s .state) (s .tag) v (s .places .now) y),
+    let at = c .before .before .before .before .before .before .before .before in
+    let s = start (passed at) in
+    let r = ap (λ a. a .found) (at .before .results-of .ensures) ∙ found at .1 in (
+      rw (c .before .before .add-totals .ensures, c .before .number-of .ensures, r) (sym (add-good (s .args .state) (s .args .tag) (s .args .value .now) (length (s .args .places .now)) (accepted at))),
+      c .before .before .before .before .before .put .ensures ∙ r ∙ sym (places-good (s .args .state) (s .args .tag) (s .args .value .now) (s .args .places .now) (accepted at)),
     )
 
 pub add-spec : {M : Type 1} → statement M
 add-spec =
     tie.close
     (tie.spec
-    early-refusal-requires
+    (λ c κs. search needs)
     returns
     results-of-requires
     returns-2
@@ -120,5 +107,5 @@ add-spec =
     add-totals-requires
     number-of-requires
     add-next
-    same-length
+    (λ c. search needs)
     returns-3)

@@ -1,44 +1,44 @@
 -- A refused opening gives the state of zeros, an accepted one the state that its bytes say.
-use mathlib.Core.Path.{sym, _∙_}
+use mathlib.Core.Path.{_≡_, sym, _∙_}
+use borrow.Author.Needs.{needs}
+use Rattle.heads.specs.Heads.{openingRefusal}
 use Rattle.heads.proofs.Opening.{opening-lengths}
 use Rattle.ledger.proofs.Sound.{open-good, open-bad}
-use borrow.Author.Needs.{needs}
 use Rattle.ledger.proofs.open.Statement.{statement}
 use Rattle.ledger.proofs.open.Tie as tie
 
-opening-refusal-requires : tie.Need-opening-refusal-requires
-opening-refusal-requires c κs = search needs
+abbrev start : tie.Else1 → tie.Start
+start c = c .before .before .before .before
 
-no-state-requires : tie.Need-no-state-requires
-no-state-requires c κs = search needs
+accepted : (c : tie.Else1) → openingRefusal (start c .args .head .now) (start c .args .calendar .now) ≡ 0
+accepted c = sym (c .before .opening-refusal .ensures) ∙ c .if1 .left
 
 returns : tie.Need-returns
 returns c =
+    let s = c .before .before .before .before .before in
     let e = c .before .before .opening-refusal .ensures in
-    rw (c .no-state .ensures, e) (sym (open-bad (c .before .before .before .before .before .args .head .now) (c .before .before .before .before .before .args .calendar .now) (rw e at (c .before .if1 .taken))))
+    rw (c .no-state .ensures, e) (sym (open-bad (s .args .head .now) (s .args .calendar .now) (rw e at (c .before .if1 .taken))))
 
 marks-of-requires : tie.Need-marks-of-requires
-marks-of-requires c κs = opening-lengths (c .before .before .before .before .args .head .now) (c .before .before .before .before .args .calendar .now) (sym (c .before .opening-refusal .ensures) ∙ c .if1 .left) .1
+marks-of-requires c κs = opening-lengths (start c .args .head .now) (start c .args .calendar .now) (accepted c) .1
 
 head-of-requires : tie.Need-head-of-requires
-head-of-requires c κs = opening-lengths (c .before .before .before .before .before .args .head .now) (c .before .before .before .before .before .args .calendar .now) (sym (c .before .before .opening-refusal .ensures) ∙ c .before .if1 .left) .0
-
-opened-state-requires : tie.Need-opened-state-requires
-opened-state-requires c κs = search needs
+head-of-requires c κs = let s = start (c .before) in opening-lengths (s .args .head .now) (s .args .calendar .now) (accepted (c .before)) .0
 
 returns-2 : tie.Need-returns-2
 returns-2 c =
+    let at = c .before .before .before in
     rw (c .opened-state .ensures, c .before .head-of .ensures, c .before .before .marks-of .ensures)
-    (sym (open-good (c .before .before .before .before .before .before .before .args .head .now) (c .before .before .before .before .before .before .before .args .calendar .now) (sym (c .before .before .before .before .opening-refusal .ensures) ∙ c .before .before .before .if1 .left)))
+    (sym (open-good (start at .args .head .now) (start at .args .calendar .now) (accepted at)))
 
 pub open-spec : {M : Type 1} → statement M
 open-spec =
     tie.close
     (tie.spec
-    opening-refusal-requires
-    no-state-requires
+    (λ c κs. search needs)
+    (λ c κs. search needs)
     returns
     marks-of-requires
     head-of-requires
-    opened-state-requires
+    (λ c κs. search needs)
     returns-2)

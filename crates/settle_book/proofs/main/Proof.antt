@@ -1,74 +1,50 @@
-use mathlib.Core.Path.{_≡_}
-use lib.ListN.{length}
+-- What has come so far is the front of a book; what is reported is a whole one.
+use mathlib.Core.Path.{_≡_, sym, _∙_}
+use Prim.Native.Nat.{_-_, _≤_}
+use native.Mathlib.Omega.{arith}
+use lib.ListN.{length, take, length-take}
 use borrow.Author.Needs.{needs}
+use Rattle.feeding.specs.Feeding.{dueOf}
+use Rattle.feeding.specs.Coming.{Coming}
+use Rattle.feeding.proofs.Coming.{comes-first, comes-over, comes-more, comes-last}
 use Rattle.settle_book.proofs.main.Statement.{statement}
 use Rattle.settle_book.proofs.main.Tie as tie
 
 abbrev Inv-loop : tie.InvT-loop
-Inv-loop buffer₀ progress₀ turns₀ t7 buffer progress turns = length buffer ≡ 5975
+Inv-loop buffer₀ progress₀ turns₀ t7 buffer progress turns = (length buffer ≡ 5975) × Coming turns progress
 
 abbrev μ-loop : tie.MeasureT-loop
 μ-loop buffer₀ progress₀ turns₀ t7 buffer progress turns = turns
 
-start-requires : tie.Need-start-requires Inv-loop μ-loop
-start-requires c κs = search needs
-
 loop-holds : tie.Need-loop-holds Inv-loop μ-loop
-loop-holds c = search needs
+loop-holds c = (search needs, rw (c .most-feedings .ensures, c .before .start .ensures) comes-first)
 
-sub-turns : tie.Need-sub-turns Inv-loop μ-loop
-sub-turns c = search needs
+-- what was fed is what came, no more than was due
+module _ (k : tie.After-is-over Inv-loop μ-loop) where
+  abbrev at-fill : tie.After-fill-front Inv-loop μ-loop
+  at-fill = k .before .before .before .before .before .before
 
-due-requires : tie.Need-due-requires Inv-loop μ-loop
-due-requires c κs = search needs
+  abbrev at-turn : tie.In-loop Inv-loop μ-loop
+  at-turn = at-fill .before .before .before
 
-slice-aggregate-fill-front : tie.Need-slice-aggregate-fill-front Inv-loop μ-loop
-slice-aggregate-fill-front c = search needs
-
-fill-front-requires : tie.Need-fill-front-requires Inv-loop μ-loop
-fill-front-requires c κs = search needs
-
-slice-aggregate-write-all : tie.Need-slice-aggregate-write-all Inv-loop μ-loop
-slice-aggregate-write-all c = search needs
-
-write-all-requires : tie.Need-write-all-requires Inv-loop μ-loop
-write-all-requires c κs = search needs
-
-returns : tie.Need-returns Inv-loop μ-loop
-returns c = search needs
-
-sub-feed : tie.Need-sub-feed Inv-loop μ-loop
-sub-feed c = search needs
-
-part-feed-start : tie.Need-part-feed-start Inv-loop μ-loop
-part-feed-start c = search needs
-
-part-feed-end : tie.Need-part-feed-end Inv-loop μ-loop
-part-feed-end c = search needs
-
-feed-requires : tie.Need-feed-requires Inv-loop μ-loop
-feed-requires c κs = search needs
-
-is-over-requires : tie.Need-is-over-requires Inv-loop μ-loop
-is-over-requires c κs = search needs
-
-loop-less : tie.Need-loop-less Inv-loop μ-loop
-loop-less c = search needs
-
-loop-again : tie.Need-loop-again Inv-loop μ-loop
-loop-again c = search needs
-
-loop-less-2 : tie.Need-loop-less-2 Inv-loop μ-loop
-loop-less-2 c = search needs
-
-loop-again-2 : tie.Need-loop-again-2 Inv-loop μ-loop
-loop-again-2 c = search needs
+  came : length (take (at-fill .fill-front .result .count - 0) (at-fill .fill-front .last .0)) ≤ dueOf (at-turn .before .loop .progress .wait)
+  came = omega (arith, length-take (at-fill .fill-front .result .count - 0) (at-fill .fill-front .last .0))
 
 report-requires : tie.Need-report-requires Inv-loop μ-loop
-report-requires c κs = search needs
+report-requires c κs =
+    let k = c .before in
+    let turn = at-turn k in
+    comes-over _ (turn .before .loop .inv .1) (turn .loop-test .taken) (k .before .feed .ensures) (sym (k .is-over .ensures) ∙ c .if2 .taken)
 
-returns-2 : tie.Need-returns-2 Inv-loop μ-loop
-returns-2 c = search needs
+loop-again : tie.Need-loop-again Inv-loop μ-loop
+loop-again c =
+    let k = c .before in
+    let turn = at-turn k in
+    let on = sym (k .is-over .ensures) ∙ c .if2 .left in
+    (search needs, comes-more _ (turn .before .loop .inv .1) (turn .loop-test .taken) (k .before .feed .ensures) (came k) on)
+
+report-requires-2 : tie.Need-report-requires-2 Inv-loop μ-loop
+report-requires-2 c κs = comes-last (c .before .loop .inv .1) (c .loop-test .left)
 
 pub main-spec : {M : Type 1} → statement M
 main-spec =
@@ -76,23 +52,24 @@ main-spec =
     (tie.spec
     Inv-loop
     μ-loop
-    start-requires
+    (λ c κs. search needs)
+    (λ c κs. search needs)
     loop-holds
-    sub-turns
-    due-requires
-    slice-aggregate-fill-front
-    fill-front-requires
-    slice-aggregate-write-all
-    write-all-requires
-    returns
-    sub-feed
-    part-feed-start
-    part-feed-end
-    feed-requires
-    is-over-requires
-    loop-less
-    loop-again
-    loop-less-2
-    loop-again-2
+    (λ c κs. search needs)
+    (λ c. search needs)
+    (λ c κs. search needs)
+    (λ c. search needs)
+    (λ c κs. search needs)
+    (λ c. search needs)
+    (λ c. search needs)
+    (λ c. search needs)
+    (λ c. search needs)
+    (λ c κs. search needs)
+    (λ c κs. search needs)
     report-requires
-    returns-2)
+    (λ c. search needs)
+    (λ c. search needs)
+    (λ c. search needs)
+    loop-again
+    report-requires-2
+    (λ c. search needs))

@@ -7,7 +7,7 @@ write-text-requires : tie.Need-write-text-requires
 write-text-requires c κs = search needs
 
 returns : tie.Need-returns
-returns c = let text = c .write-text .ensures in ((text .0 .0, text .0 .2), text .1)
+returns c = let text = c .write-text .ensures in (text .0 .0, text .1)
 
 pub put-text-spec : {M : Type 1} → statement M
 put-text-spec = tie.close (tie.spec write-text-requires returns)
