@@ -7,10 +7,9 @@ ghost use Rattle.fields.specs.Fields.{lengthDue, shortRows, dueTagRow, d
 ghost use Rattle.fields.specs.declared.Due.the-variants.{Head, Calendar};
 use crate::Due;
 use crate::Field;
+use crate::HEADER_LENGTH;
 
-// The bytes of a field's header: the tag, and from the second byte on the length.
-pub const HEADER_LENGTH: usize = 3;
-
+// Where a header's length begins.
 const LENGTH_AT: usize = 1;
 
 // The number of a field answer.

@@ -2,6 +2,9 @@
 pub mod cutting;
 pub mod writing;
 
+// The bytes of a field's header: a tag, and a length of two bytes.
+pub const HEADER_LENGTH: usize = 3;
+
 // Which field is due at a place of the book.
 pub enum Due {
     Head,
