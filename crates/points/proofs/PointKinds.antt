@@ -8,7 +8,8 @@ use borrow.Author.Tests.{eqb-true, not-false, eq-eqb, ne-eqb}
 use lib.Dec.{T}
 use Rattle.numbers.specs.Refusals.{firstOf}
 use Rattle.numbers.proofs.Refusals.{numbered, untold}
-use Rattle.points.specs.Points.{consumerTag, generatorTag, consumerLength, generatorLength, numberLength}
+use Rattle.numbers.specs.PointNumbers.{numberLength}
+use Rattle.points.specs.Points.{consumerTag, generatorTag, consumerLength, generatorLength}
 use Rattle.points.specs.Points.{Kind, consumer, generator, unknown, kindOf, isUnknown, sizeOf, isUnfit, hasLarge, formRows, valueRows}
 
 module _ (tag : ℕ) where

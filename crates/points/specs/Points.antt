@@ -5,12 +5,11 @@ use Prim.Native.Nat.{ℕ, _+_}
 use lib.Dec.{leb, ltb, eqb}
 use lib.ListN.{getD, take, drop}
 use Rattle.numbers.specs.Words.{word32}
-use Rattle.numbers.specs.PointNumbers.{isNumber}
+use Rattle.numbers.specs.PointNumbers.{numberLength, isNumber}
+use Rattle.numbers.specs.Slots.{windowSlots}
 use Rattle.readings.specs.Readings.{firstLarge}
+use Rattle.readings.specs.Readings as readings
 use Rattle.heads.specs.Limits.{lowClass, extraHighClass, mostBaseline}
-
-abbrev pub numberLength : ℕ
-numberLength = 22
 
 -- a point: its tag and its value
 pub record Point : Type 0 where
@@ -80,8 +79,8 @@ readingsOf generator value = drop generatorReadingsAt value
 readingsOf unknown value = []
 
 abbrev pub readingCount : Kind → ℕ
-readingCount consumer = 1488
-readingCount generator = 6
+readingCount consumer = readings.readingCount
+readingCount generator = windowSlots
 readingCount unknown = 0
 
 -- a class or a baseline that is not allowed

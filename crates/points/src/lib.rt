@@ -4,8 +4,12 @@ ghost use Prim.Native.Nat.{_≤_, _-_};
 ghost use lib.ListN.{length, getD};
 ghost use Rattle.numbers.specs.Refusals.{firstOf};
 ghost use Rattle.heads.specs.Limits.{lowClass, extraHighClass};
-ghost use Rattle.points.specs.Points.{numberLength, kindOf, sizeOf, numberOf, hasLarge};
+ghost use Rattle.numbers.specs.PointNumbers.{numberLength};
+ghost use Rattle.points.specs.Points.{kindOf, sizeOf, numberOf, hasLarge};
 ghost use Rattle.points.specs.Points.{tagRow, formRows, classRow, baselineRow, unfitRow, valueRows};
+
+use numbers::NUMBER_LENGTH;
+use numbers::WINDOW_SLOTS;
 
 // The tags of points, and the lengths of their values (specs/Points).
 pub const CONSUMER: u8 = 3;
@@ -15,6 +19,9 @@ pub const GENERATOR: u8 = 4;
 const CONSUMER_LENGTH: usize = 5975;
 
 const GENERATOR_LENGTH: usize = 50;
+
+// The readings of a consumer.
+const CONSUMER_READINGS: usize = 1488;
 
 // Where the parts of a value behind its number begin.
 pub const CLASS_AT: usize = 22;
@@ -107,20 +114,20 @@ fn has_large(tag: u8, value: &[u8]) -> bool
     ensures { λ r. ⌜ r ≡ hasLarge (kindOf tag) (now (value .entry)) ⌝ }
 {
     match tag {
-        CONSUMER => readings::first_large(&value[CONSUMER_READINGS_AT..], 1488) < 1488,
-        GENERATOR => readings::first_large(&value[GENERATOR_READINGS_AT..], 6) < 6,
+        CONSUMER => readings::first_large(&value[CONSUMER_READINGS_AT..], CONSUMER_READINGS) < CONSUMER_READINGS,
+        GENERATOR => readings::first_large(&value[GENERATOR_READINGS_AT..], WINDOW_SLOTS) < WINDOW_SLOTS,
         _ => false,
     }
 }
 
 // The point number at the front of a value.
-pub fn number_of(value: &[u8]) -> [u8; 22]
+pub fn number_of(value: &[u8]) -> [u8; NUMBER_LENGTH]
     requires { ⌜ numberLength ≤ length (now value) ⌝ }
     ensures { λ r. ⌜ r ≡ numberOf (now (value .entry)) ⌝ }
 {
-    let mut number = [0u8; 22];
+    let mut number = [0u8; NUMBER_LENGTH];
     let mut i: usize = 0;
-    while i < 22 {
+    while i < NUMBER_LENGTH {
         number[i] = value[i];
         i += 1;
     }

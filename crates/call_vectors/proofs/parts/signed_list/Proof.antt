@@ -22,11 +22,11 @@ abbrev μ-loop : tie.MeasureT-loop
 loop-holds : tie.Need-loop-holds Inv-loop μ-loop
 loop-holds c = (search needs, refl, search needs, refl)
 
-mul-signed-at : tie.Need-mul-signed-at Inv-loop μ-loop
-mul-signed-at c = search needs
+mul-signed-word-at : tie.Need-mul-signed-word-at Inv-loop μ-loop
+mul-signed-word-at c = search needs
 
-signed-at-requires : tie.Need-signed-at-requires Inv-loop μ-loop
-signed-at-requires c κs = search needs
+signed-word-at-requires : tie.Need-signed-word-at-requires Inv-loop μ-loop
+signed-word-at-requires c κs = search needs
 
 mul-t7 : tie.Need-mul-t7 Inv-loop μ-loop
 mul-t7 c = search needs
@@ -44,8 +44,8 @@ loop-again : tie.Need-loop-again Inv-loop μ-loop
 loop-again c =
     let l = c .before .before .loop in
     let s = c .before .before .before .before .args in
-    let e : c .signed-at .result ≡ signedIn (s .bytes .now) (0 + l .i) = c .signed-at .ensures ∙ rw zero-add refl in
-    (search needs, search needs, l .inv .2, rw (toZ-ofZ (sfits-of (c .signed-at .ok)), l .inv .3) (fill-more (s .places .now) (signedIn (s .bytes .now)) 0 (length (s .places .now)) refl (l .i) (pos 0) _ (omega arith) e))
+    let e : c .signed-word-at .result ≡ signedIn (s .bytes .now) (0 + l .i) = c .signed-word-at .ensures ∙ rw zero-add refl in
+    (search needs, search needs, l .inv .2, rw (toZ-ofZ (sfits-of (c .signed-word-at .ok)), l .inv .3) (fill-more (s .places .now) (signedIn (s .bytes .now)) 0 (length (s .places .now)) refl (l .i) (pos 0) _ (omega arith) e))
 
 same-length : tie.Need-same-length Inv-loop μ-loop
 same-length c = search needs
@@ -63,8 +63,8 @@ signed-list-spec =
     Inv-loop
     μ-loop
     loop-holds
-    mul-signed-at
-    signed-at-requires
+    mul-signed-word-at
+    signed-word-at-requires
     mul-t7
     slice-set-from-places
     add-i
