@@ -21,7 +21,7 @@ use Rattle.baseline.specs.Days.{AtMost, Tested, baselinesOn}
 use Rattle.baseline.specs.declared.Baselines.{Baselines}
 use Rattle.baseline.proofs.Bounds.{baseline-bound}
 use Rattle.heads.specs.Limits.{mostLoss}
-use Rattle.heads.specs.Heads.{testDay, contentTests, contentRefusal}
+use Rattle.heads.specs.Heads.{testDay, counts, contentTests, contentRefusal}
 use Rattle.heads.specs.declared.Head.{Head}
 use Rattle.heads.proofs.Opening.{both, opens}
 use Rattle.points.specs.Points.{consumer, classOf}
@@ -32,7 +32,7 @@ use Rattle.results.proofs.Bounds.{all-tested}
 module _ {h : Head} {marks v : List ℕ} (p : Passed h marks consumer v) where
   pub dated : isDate (h .year) (h .month) (h .day) ≡ true
   unfolding contentRefusal
-  dated = not-false _ (untold (contentTests h marks) tt (p .content) 2)
+  dated = not-false _ (untold (contentTests counts h marks) tt (p .content) 2)
 
   pub classed : (1 ≤ classOf v) × (classOf v ≤ 3)
   classed = let t = both (leb 1 (classOf v)) (leb (classOf v) 3) (p .fit) in (leb-yes (t .0), leb-yes (t .1))
