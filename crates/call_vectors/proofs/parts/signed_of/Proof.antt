@@ -29,21 +29,6 @@ back n h = toZ-ofZ (fits n h) ∙ rw (toZ-pos w64 h) (less n)
 positive : (n : ℕ) → n < 9223372036854775808 → toZ w64 n ≡ signedOf n
 positive n h = toZ-pos w64 h ∙ rw (lt-ltb n 9223372036854775808 h) refl
 
-mul-word : tie.Need-mul-word
-mul-word c = search needs
-
-add-word : tie.Need-add-word
-add-word c = search needs
-
-cast-result : tie.Need-cast-result
-cast-result c = search needs
-
-sub-result : tie.Need-sub-result
-sub-result c = search needs
-
-cast-result-2 : tie.Need-cast-result-2
-cast-result-2 c = search needs
-
 sub-result-2 : tie.Need-sub-result-2
 sub-result-2 c = fits (below (c .before .args .high) (c .before .args .low)) (omega arith)
 
@@ -57,11 +42,11 @@ pub signed-of-spec : {M : Type 1} → statement M
 signed-of-spec =
     tie.close
     (tie.spec
-    mul-word
-    add-word
-    cast-result
-    sub-result
-    cast-result-2
+    (λ c. search needs)
+    (λ c. search needs)
+    (λ c. search needs)
+    (λ c. search needs)
+    (λ c. search needs)
     sub-result-2
     returns
     returns-2)
