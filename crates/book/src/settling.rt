@@ -1,9 +1,8 @@
 // The whole book: reading it field by field, and the 64 result bytes.
 ghost use mathlib.Core.Path.{_≡_};
-ghost use mathlib.Core.Bool.{Bool, cond};
-ghost use mathlib.Core.List.{List, [], _∷_};
-ghost use Prim.Native.Nat.{ℕ, _+_, _^_, _≤_, _<_};
-ghost use lib.IntN.{ℤ, pos};
+ghost use mathlib.Core.Bool.{cond};
+ghost use Prim.Native.Nat.{_^_, _≤_, _<_};
+ghost use lib.IntN.{pos};
 ghost use lib.ListN.{length, getD, drop};
 ghost use Rattle.book.specs.Reading.{readPoints, readBook};
 ghost use Rattle.book.specs.Endings.{refusedWith, pointsEnding, bookEnding, closedAfter};

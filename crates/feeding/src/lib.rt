@@ -1,7 +1,6 @@
 // A book that comes field by field: one header or one value is held at a time.
 ghost use mathlib.Core.Path.{_≡_};
-ghost use mathlib.Core.Bool.{Bool, true, false};
-ghost use Prim.Native.Nat.{ℕ, _≤_};
+ghost use Prim.Native.Nat.{_≤_};
 ghost use lib.ListN.{length};
 ghost use Rattle.feeding.specs.Feeding.{dueOf, isOver, startOf, mostFeedings, refusedAt};
 ghost use Rattle.feeding.specs.Feeding.{headerFed, pointOrEnd, going, got, valueFed, endFed, feedOf};

@@ -6,9 +6,6 @@ use borrow.Author.Needs.{needs}
 use Rattle.feeding.proofs.feed_end.Statement.{statement}
 use Rattle.feeding.proofs.feed_end.Tie as tie
 
-refused-at-requires : tie.Need-refused-at-requires
-refused-at-requires c κs = search needs
-
 returns : tie.Need-returns
 unfolding endFed
 returns c = c .refused-at .ensures ∙ simp (ne-eqb _ _ (c .before .if1 .taken))
@@ -18,4 +15,4 @@ unfolding endFed
 returns-2 c = simp (eq-eqb _ _ (c .before .before .if1 .left))
 
 pub feed-end-spec : {M : Type 1} → statement M
-feed-end-spec = tie.close (tie.spec refused-at-requires returns returns-2)
+feed-end-spec = tie.close (tie.spec (λ c κs. search needs) returns returns-2)

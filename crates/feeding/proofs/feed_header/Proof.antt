@@ -8,12 +8,6 @@ use borrow.Author.Needs.{needs}
 use Rattle.feeding.proofs.feed_header.Statement.{statement}
 use Rattle.feeding.proofs.feed_header.Tie as tie
 
-header-refusal-requires : tie.Need-header-refusal-requires
-header-refusal-requires c κs = search needs
-
-refused-at-requires : tie.Need-refused-at-requires
-refused-at-requires c κs = search needs
-
 returns : tie.Need-returns
 unfolding headerFed
 returns c = let e = c .before .before .header-refusal .ensures in rw (c .refused-at .ensures, e) (simp (ne-eqb _ _ (rw e at (c .before .if1 .taken))))
@@ -31,4 +25,4 @@ returns-2 c = simp (eq-eqb _ _ (sym (c .before .before .before .before .header-r
 pub feed-header-spec : {M : Type 1} → statement M
 feed-header-spec =
     tie.close
-    (tie.spec header-refusal-requires refused-at-requires returns shared-slice-read-t9 returns-2)
+    (tie.spec (λ c κs. search needs) (λ c κs. search needs) returns shared-slice-read-t9 returns-2)

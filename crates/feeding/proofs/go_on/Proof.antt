@@ -5,17 +5,11 @@ use borrow.Author.Needs.{needs}
 use Rattle.feeding.proofs.go_on.Statement.{statement}
 use Rattle.feeding.proofs.go_on.Tie as tie
 
-refused-at-requires : tie.Need-refused-at-requires
-refused-at-requires c κs = search needs
-
 returns : tie.Need-returns
 returns c = c .refused-at .ensures ∙ simp (ne-eqb _ _ (c .before .if1 .taken))
-
-point-or-end-requires : tie.Need-point-or-end-requires
-point-or-end-requires c κs = search needs
 
 returns-2 : tie.Need-returns-2
 returns-2 c = rw (c .before .point-or-end .ensures) (simp (eq-eqb _ _ (c .before .before .if1 .left)))
 
 pub go-on-spec : {M : Type 1} → statement M
-go-on-spec = tie.close (tie.spec refused-at-requires returns point-or-end-requires returns-2)
+go-on-spec = tie.close (tie.spec (λ c κs. search needs) returns (λ c κs. search needs) returns-2)

@@ -3,11 +3,8 @@ use borrow.Author.Needs.{needs}
 use Rattle.feeding.proofs.got_head.Statement.{statement}
 use Rattle.feeding.proofs.got_head.Tie as tie
 
-kept-head-requires : tie.Need-kept-head-requires
-kept-head-requires c κs = search needs
-
 returns : tie.Need-returns
 returns c = rw (c .before .kept-head .ensures)
 
 pub got-head-spec : {M : Type 1} → statement M
-got-head-spec = tie.close (tie.spec kept-head-requires returns)
+got-head-spec = tie.close (tie.spec (λ c κs. search needs) returns)

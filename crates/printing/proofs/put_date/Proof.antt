@@ -3,21 +3,6 @@ use borrow.Author.Needs.{needs}
 use Rattle.printing.proofs.put_date.Statement.{statement}
 use Rattle.printing.proofs.put_date.Tie as tie
 
-cast-put-number : tie.Need-cast-put-number
-cast-put-number c = search needs
-
-put-number-requires : tie.Need-put-number-requires
-put-number-requires c κs = search needs
-
-put-dashed-requires : tie.Need-put-dashed-requires
-put-dashed-requires c κs = search needs
-
-put-dashed-requires-2 : tie.Need-put-dashed-requires-2
-put-dashed-requires-2 c κs = search needs
-
-same-length : tie.Need-same-length
-same-length c = search needs
-
 returns : tie.Need-returns
 returns c =
     let third = c .before .before in
@@ -29,9 +14,9 @@ pub put-date-spec : {M : Type 1} → statement M
 put-date-spec =
     tie.close
     (tie.spec
-    cast-put-number
-    put-number-requires
-    put-dashed-requires
-    put-dashed-requires-2
-    same-length
+    (λ c. search needs)
+    (λ c κs. search needs)
+    (λ c κs. search needs)
+    (λ c κs. search needs)
+    (λ c. search needs)
     returns)

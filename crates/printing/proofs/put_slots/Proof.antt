@@ -26,36 +26,6 @@ abbrev μ-loop : tie.MeasureT-loop
 loop-holds : tie.Need-loop-holds Inv-loop μ-loop
 loop-holds c = let s = c .before in (search needs, search needs, refl, search needs, named (sym (slots-none 1 (s .args .t1))) (nothing (s .args .at) (s .args .out .now) (omega arith)))
 
-slice-aggregate-put : tie.Need-slice-aggregate-put Inv-loop μ-loop
-slice-aggregate-put c = search needs
-
-put-requires : tie.Need-put-requires Inv-loop μ-loop
-put-requires c κs = search needs
-
-add-put-number : tie.Need-add-put-number Inv-loop μ-loop
-add-put-number c = search needs
-
-put-number-requires : tie.Need-put-number-requires Inv-loop μ-loop
-put-number-requires c κs = search needs
-
-slice-aggregate-put-signed-line : tie.Need-slice-aggregate-put-signed-line Inv-loop μ-loop
-slice-aggregate-put-signed-line c = search needs
-
-mul-put-signed-line : tie.Need-mul-put-signed-line Inv-loop μ-loop
-mul-put-signed-line c = search needs
-
-array-copy-out-put-signed-line : tie.Need-array-copy-out-put-signed-line Inv-loop μ-loop
-array-copy-out-put-signed-line c = search needs
-
-put-signed-line-requires : tie.Need-put-signed-line-requires Inv-loop μ-loop
-put-signed-line-requires c κs = search needs
-
-add-i : tie.Need-add-i Inv-loop μ-loop
-add-i c = search needs
-
-loop-less : tie.Need-loop-less Inv-loop μ-loop
-loop-less c = search needs
-
 loop-again : tie.Need-loop-again Inv-loop μ-loop
 loop-again c =
     let third = c .before .before in
@@ -77,9 +47,6 @@ loop-again c =
           (omega arith),
     )
 
-same-length : tie.Need-same-length Inv-loop μ-loop
-same-length c = search needs
-
 returns : tie.Need-returns Inv-loop μ-loop
 returns c =
     let s = c .before .before .before in
@@ -93,16 +60,16 @@ put-slots-spec =
     Inv-loop
     μ-loop
     loop-holds
-    slice-aggregate-put
-    put-requires
-    add-put-number
-    put-number-requires
-    slice-aggregate-put-signed-line
-    mul-put-signed-line
-    array-copy-out-put-signed-line
-    put-signed-line-requires
-    add-i
-    loop-less
+    (λ c. search needs)
+    (λ c κs. search needs)
+    (λ c. search needs)
+    (λ c κs. search needs)
+    (λ c. search needs)
+    (λ c. search needs)
+    (λ c. search needs)
+    (λ c κs. search needs)
+    (λ c. search needs)
+    (λ c. search needs)
     loop-again
-    same-length
+    (λ c. search needs)
     returns)

@@ -1,5 +1,5 @@
 -- The one line of a refused book, or the lines of a settled one.
-use mathlib.Core.Path.{_≡_, sym, ap, _∙_}
+use mathlib.Core.Path.{sym, ap, _∙_}
 use native.Mathlib.Omega.{arith}
 use Rattle.numbers.proofs.Places.{named, front-end}
 use Rattle.lines.proofs.Fronts.{front-counts}

@@ -3,11 +3,8 @@ use borrow.Author.Needs.{needs}
 use Rattle.settle_book.proofs.put_text.Statement.{statement}
 use Rattle.settle_book.proofs.put_text.Tie as tie
 
-write-text-requires : tie.Need-write-text-requires
-write-text-requires c κs = search needs
-
 returns : tie.Need-returns
 returns c = let text = c .write-text .ensures in (text .0 .0, text .1)
 
 pub put-text-spec : {M : Type 1} → statement M
-put-text-spec = tie.close (tie.spec write-text-requires returns)
+put-text-spec = tie.close (tie.spec (λ c κs. search needs) returns)

@@ -21,17 +21,8 @@ loop-holds c =
     let n : length (c .before .args .words) ≡ 8 = search needs in
     (search needs, c .before .pre, words-length (c .before .args .words) ∙ omega arith, refl)
 
-result-byte-requires : tie.Need-result-byte-requires Inv-loop μ-loop
-result-byte-requires c κs = search needs
-
 slice-write-result : tie.Need-slice-write-result Inv-loop μ-loop
 slice-write-result c = let l = c .before .before .loop in omega (arith, ap length (l .inv .3) ∙ front-length _ _ (l .i) (omega arith) (omega arith))
-
-add-i : tie.Need-add-i Inv-loop μ-loop
-add-i c = search needs
-
-loop-less : tie.Need-loop-less Inv-loop μ-loop
-loop-less c = search needs
 
 loop-again : tie.Need-loop-again Inv-loop μ-loop
 loop-again c =
@@ -52,10 +43,10 @@ put-words-spec =
     Inv-loop
     μ-loop
     loop-holds
-    result-byte-requires
+    (λ c κs. search needs)
     slice-write-result
-    add-i
-    loop-less
+    (λ c. search needs)
+    (λ c. search needs)
     loop-again
     same-length
     returns)

@@ -1,10 +1,11 @@
 -- Point by point: what is left to read ends as the whole does.
 use mathlib.Core.Path.{_≡_, refl, sym, ap, _∙_}
-use Prim.Native.Nat.{_≤_}
+use mathlib.Core.List.{List}
+use Prim.Native.Nat.{ℕ, _+_, _≤_}
 use native.Mathlib.Omega.{arith}
 use lib.ListN.{length, drop}
 use borrow.Author.Needs.{needs}
-use Rattle.fields.specs.Fields.{refusalOf}
+use Rattle.fields.specs.Fields.{fieldOf, refusalOf}
 use Rattle.book.specs.Reading.{readPoints}
 use Rattle.book.specs.Endings.{refusedWith, pointsEnding}
 use Rattle.fields.specs.declared.Due.the-variants.{Point}
@@ -23,112 +24,63 @@ abbrev μ-loop : tie.MeasureT-loop
 loop-holds : tie.Need-loop-holds Inv-loop μ-loop
 loop-holds c = (search needs, refl)
 
-sub-cut : tie.Need-sub-cut Inv-loop μ-loop
-sub-cut c = search needs
+-- once a point's field is cut out
+module _ (k : tie.After-known-told Inv-loop μ-loop) where
+  abbrev at-turn : tie.In-loop Inv-loop μ-loop
+  at-turn = k .before .before .before .before .before
 
-part-cut-start : tie.Need-part-cut-start Inv-loop μ-loop
-part-cut-start c = search needs
+  abbrev book : List ℕ
+  book = at-turn .before .before .before .before .args .book .now
 
-part-cut-end : tie.Need-part-cut-end Inv-loop μ-loop
-part-cut-end c = search needs
+  abbrev at : ℕ
+  at = at-turn .before .loop .at
 
-cut-requires : tie.Need-cut-requires Inv-loop μ-loop
-cut-requires c κs = search needs
+  abbrev tag : ℕ
+  tag = k .before .field .given .0 .0
 
-enum-known-field : tie.Need-enum-known-field Inv-loop μ-loop
-enum-known-field c = search needs
+  abbrev size : ℕ
+  size = k .before .field .given .0 .1 .0
 
-enum-told : tie.Need-enum-told Inv-loop μ-loop
-enum-told c = search needs
+  point-cut : fieldOf Point (drop at book) ≡ Value tag size
+  point-cut = cut-here Point book at _ (k .before .before .before .cut .ensures) _ (k .before .field .given .1)
 
-refusal-of-requires : tie.Need-refusal-of-requires Inv-loop μ-loop
-refusal-of-requires c κs = search needs
-
-refused-requires : tie.Need-refused-requires Inv-loop μ-loop
-refused-requires c κs = search needs
+  point-within : at + 3 + size ≤ length book
+  point-within = cut-end Point book at _ (k .before .before .before .cut .ensures) (at-turn .before .loop .inv .0) tag size (k .before .field .given .1)
 
 returns : tie.Need-returns Inv-loop μ-loop
 returns c =
-    let l = c .before .before .before .before .before .before .before .loop in
-    let book = c .before .before .before .before .before .before .before .before .before .before .args .book .now in
+    let turn = c .before .before .before .before .before .before in
+    let l = turn .before .loop in
     let told = c .before .before .enum-told .given .1 in
-    let e = cut-here Point book (l .at) _ (c .before .before .before .before .cut .ensures) _ told in
+    let e = cut-here Point _ (l .at) _ (c .before .before .before .before .cut .ensures) _ told in
     c .refused .ensures ∙ ap refusedWith (c .before .refusal-of .ensures ∙ ap refusalOf told)
-    ∙ sym (l .inv .1 ∙ not-cut (l .due) (l .state) book (l .at) (c .before .before .before .before .before .before .loop-test .taken) _ e)
-
-add-from : tie.Need-add-from Inv-loop μ-loop
-add-from c =
-    let l = c .before .before .before .before .before .before .loop in
-    let book = c .before .before .before .before .before .before .before .before .before .args .book .now in
-    let f = c .before .field .given in
-    omega (arith, cut-end Point book (l .at) _ (c .before .before .before .cut .ensures) (l .inv .0) (f .0 .0) (f .0 .1 .0) (f .1))
-
-add-end : tie.Need-add-end Inv-loop μ-loop
-add-end c =
-    let l = c .before .before .before .before .before .before .loop in
-    let book = c .before .before .before .before .before .before .before .before .before .args .book .now in
-    let f = c .before .field .given in
-    omega (arith, cut-end Point book (l .at) _ (c .before .before .before .cut .ensures) (l .inv .0) (f .0 .0) (f .0 .1 .0) (f .1))
-
-sub-add : tie.Need-sub-add Inv-loop μ-loop
-sub-add c = search needs
-
-part-add-start : tie.Need-part-add-start Inv-loop μ-loop
-part-add-start c = search needs
-
-part-add-end : tie.Need-part-add-end Inv-loop μ-loop
-part-add-end c =
-    let l = c .before .before .before .before .before .before .loop in
-    let book = c .before .before .before .before .before .before .before .before .before .args .book .now in
-    let f = c .before .field .given in
-    omega (arith, cut-end Point book (l .at) _ (c .before .before .before .cut .ensures) (l .inv .0) (f .0 .0) (f .0 .1 .0) (f .1))
-
-slice-aggregate-add : tie.Need-slice-aggregate-add Inv-loop μ-loop
-slice-aggregate-add c = search needs
-
-add-requires : tie.Need-add-requires Inv-loop μ-loop
-add-requires c κs = search needs
-
-refused-requires-2 : tie.Need-refused-requires-2 Inv-loop μ-loop
-refused-requires-2 c κs = search needs
+    ∙ sym (l .inv .1 ∙ not-cut (l .due) (l .state) _ (l .at) (turn .loop-test .taken) _ e)
 
 returns-2 : tie.Need-returns-2 Inv-loop μ-loop
 returns-2 c =
     let k = c .before .before .before .before .before .before .before in
-    let l = k .before .before .before .before .before .before .loop in
-    let book = k .before .before .before .before .before .before .before .before .before .args .book .now in
-    let f = k .before .field .given in
-    let e = cut-here Point book (l .at) _ (k .before .before .before .cut .ensures) (Value (f .0 .0) (f .0 .1 .0)) (f .1) in
+    let l = at-turn k .before .loop in
     let a = c .before .before .before .before .add .ensures .0 in
+    let more = at-turn k .loop-test .taken in
     c .refused2 .ensures ∙ ap refusedWith (ap (λ y. y .refusal) a)
-    ∙ sym (l .inv .1 ∙ stopped (l .due) (l .state) book (l .at) (k .before .before .before .before .before .loop-test .taken) (f .0 .0) (f .0 .1 .0) e (rw a at (c .before .if1 .taken)))
-
-sub-due : tie.Need-sub-due Inv-loop μ-loop
-sub-due c = search needs
-
-loop-less : tie.Need-loop-less Inv-loop μ-loop
-loop-less c = search needs
+    ∙ sym (l .inv .1 ∙ stopped (l .due) (l .state) (book k) (l .at) more (tag k) (size k) (point-cut k) (rw a at (c .before .if1 .taken)))
 
 loop-again : tie.Need-loop-again Inv-loop μ-loop
 loop-again c =
     let k = c .before .before .before .before .before .before .before in
-    let l = k .before .before .before .before .before .before .loop in
-    let book = k .before .before .before .before .before .before .before .before .before .args .book .now in
-    let f = k .before .field .given in
-    let e = cut-here Point book (l .at) _ (k .before .before .before .cut .ensures) (Value (f .0 .0) (f .0 .1 .0)) (f .1) in
-    let a = c .before .before .before .before .add .ensures .0 in (
-      cut-end Point book (l .at) _ (k .before .before .before .cut .ensures) (l .inv .0) (f .0 .0) (f .0 .1 .0) (f .1),
-      l .inv .1 ∙ went-on (l .due) (l .state) book (l .at) (k .before .before .before .before .before .loop-test .taken) (f .0 .0) (f .0 .1 .0) e (sym (ap (λ y. y .refusal) a) ∙ c .before .if1 .left)
-          ∙ rw a refl,
+    let l = at-turn k .before .loop in
+    let a = c .before .before .before .before .add .ensures .0 in
+    let more = at-turn k .loop-test .taken in
+    let accepted = sym (ap (λ y. y .refusal) a) ∙ c .before .if1 .left in (
+      point-within k,
+      l .inv .1 ∙ went-on (l .due) (l .state) (book k) (l .at) more (tag k) (size k) (point-cut k) accepted ∙ rw a refl,
     )
-
-refused-requires-3 : tie.Need-refused-requires-3 Inv-loop μ-loop
-refused-requires-3 c κs = search needs
 
 returns-3 : tie.Need-returns-3 Inv-loop μ-loop
 returns-3 c =
     let l = c .before .before .before .loop in
-    c .refused3 .ensures ∙ sym (l .inv .1 ∙ bytes-behind (l .due) (l .state) _ (l .at) (c .before .before .loop-test .left) (l .inv .0) (c .before .if2 .taken))
+    c .refused3 .ensures
+    ∙ sym (l .inv .1 ∙ bytes-behind (l .due) (l .state) _ (l .at) (c .before .before .loop-test .left) (l .inv .0) (c .before .if2 .taken))
 
 returns-4 : tie.Need-returns-4 Inv-loop μ-loop
 returns-4 c =
@@ -142,27 +94,27 @@ read-points-spec =
     Inv-loop
     μ-loop
     loop-holds
-    sub-cut
-    part-cut-start
-    part-cut-end
-    cut-requires
-    enum-known-field
-    enum-told
-    refusal-of-requires
-    refused-requires
+    (λ c. search needs)
+    (λ c. search needs)
+    (λ c. search needs)
+    (λ c κs. search needs)
+    (λ c. search needs)
+    (λ c. search needs)
+    (λ c κs. search needs)
+    (λ c κs. search needs)
     returns
-    add-from
-    add-end
-    sub-add
-    part-add-start
-    part-add-end
-    slice-aggregate-add
-    add-requires
-    refused-requires-2
+    (λ c. omega (arith, point-within c))
+    (λ c. omega (arith, point-within c))
+    (λ c. search needs)
+    (λ c. search needs)
+    (λ c. omega (arith, point-within c))
+    (λ c. search needs)
+    (λ c κs. search needs)
+    (λ c κs. search needs)
     returns-2
-    sub-due
-    loop-less
+    (λ c. search needs)
+    (λ c. search needs)
     loop-again
-    refused-requires-3
+    (λ c κs. search needs)
     returns-3
     returns-4)

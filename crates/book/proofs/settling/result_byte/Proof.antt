@@ -12,18 +12,6 @@ use borrow.Author.Needs.{needs}
 use Rattle.book.proofs.settling.result_byte.Statement.{statement}
 use Rattle.book.proofs.settling.result_byte.Tie as tie
 
-mul-word-bytes : tie.Need-mul-word-bytes
-mul-word-bytes c = search needs
-
-array-copy-out-word-bytes : tie.Need-array-copy-out-word-bytes
-array-copy-out-word-bytes c = search needs
-
-word-bytes-requires : tie.Need-word-bytes-requires
-word-bytes-requires c κs = search needs
-
-array-read-result : tie.Need-array-read-result
-array-read-result c = search needs
-
 returns : tie.Need-returns
 returns c =
     let s = c .before .before in
@@ -34,8 +22,8 @@ pub result-byte-spec : {M : Type 1} → statement M
 result-byte-spec =
     tie.close
     (tie.spec
-    mul-word-bytes
-    array-copy-out-word-bytes
-    word-bytes-requires
-    array-read-result
+    (λ c. search needs)
+    (λ c. search needs)
+    (λ c κs. search needs)
+    (λ c. search needs)
     returns)

@@ -4,7 +4,6 @@ use mathlib.Core.List.{List}
 use Prim.Native.Nat.{ℕ, _<_, _^_}
 use native.Mathlib.Omega.{arith}
 use lib.Signed.{mag}
-use Rattle.ledger.specs.declared.Closed.{Closed}
 use Rattle.book.specs.Reading.{readBook}
 use Rattle.book.specs.Endings.{closedAfter}
 use Rattle.book.specs.Settling.{closingOf, wordsOf}

@@ -22,33 +22,12 @@ abbrev μ-loop : tie.MeasureT-loop
 loop-holds : tie.Need-loop-holds Inv-loop μ-loop
 loop-holds c = (search needs, refl, search needs, refl)
 
-mul-signed-word-at : tie.Need-mul-signed-word-at Inv-loop μ-loop
-mul-signed-word-at c = search needs
-
-signed-word-at-requires : tie.Need-signed-word-at-requires Inv-loop μ-loop
-signed-word-at-requires c κs = search needs
-
-mul-t7 : tie.Need-mul-t7 Inv-loop μ-loop
-mul-t7 c = search needs
-
-slice-set-from-places : tie.Need-slice-set-from-places Inv-loop μ-loop
-slice-set-from-places c = search needs
-
-add-i : tie.Need-add-i Inv-loop μ-loop
-add-i c = search needs
-
-loop-less : tie.Need-loop-less Inv-loop μ-loop
-loop-less c = search needs
-
 loop-again : tie.Need-loop-again Inv-loop μ-loop
 loop-again c =
     let l = c .before .before .loop in
     let s = c .before .before .before .before .args in
     let e : c .signed-word-at .result ≡ signedIn (s .bytes .now) (0 + l .i) = c .signed-word-at .ensures ∙ rw zero-add refl in
     (search needs, search needs, l .inv .2, rw (toZ-ofZ (sfits-of (c .signed-word-at .ok)), l .inv .3) (fill-more (s .places .now) (signedIn (s .bytes .now)) 0 (length (s .places .now)) refl (l .i) (pos 0) _ (omega arith) e))
-
-same-length : tie.Need-same-length Inv-loop μ-loop
-same-length c = search needs
 
 returns : tie.Need-returns Inv-loop μ-loop
 returns c =
@@ -63,12 +42,12 @@ signed-list-spec =
     Inv-loop
     μ-loop
     loop-holds
-    mul-signed-word-at
-    signed-word-at-requires
-    mul-t7
-    slice-set-from-places
-    add-i
-    loop-less
+    (λ c. search needs)
+    (λ c κs. search needs)
+    (λ c. search needs)
+    (λ c. search needs)
+    (λ c. search needs)
+    (λ c. search needs)
     loop-again
-    same-length
+    (λ c. search needs)
     returns)

@@ -17,51 +17,6 @@ made : (bytes : List ℕ) {h : Head} {marks : List ℕ} {points : ℕ} {totals :
 unfolding stateIn
 made bytes e₁ e₂ e₃ e₄ e₅ = rw (e₁, e₂, e₃, e₄, e₅) refl
 
-head-of-requires : tie.Need-head-of-requires
-head-of-requires c κs = search needs
-
-sub-marks-of : tie.Need-sub-marks-of
-sub-marks-of c = search needs
-
-part-marks-of-start : tie.Need-part-marks-of-start
-part-marks-of-start c = search needs
-
-part-marks-of-end : tie.Need-part-marks-of-end
-part-marks-of-end c = search needs
-
-marks-of-requires : tie.Need-marks-of-requires
-marks-of-requires c κs = search needs
-
-word32-at-requires : tie.Need-word32-at-requires
-word32-at-requires c κs = search needs
-
-sub-signed-list : tie.Need-sub-signed-list
-sub-signed-list c = search needs
-
-part-signed-list-start : tie.Need-part-signed-list-start
-part-signed-list-start c = search needs
-
-part-signed-list-end : tie.Need-part-signed-list-end
-part-signed-list-end c = search needs
-
-slice-aggregate-signed-list : tie.Need-slice-aggregate-signed-list
-slice-aggregate-signed-list c = search needs
-
-signed-list-requires : tie.Need-signed-list-requires
-signed-list-requires c κs = search needs
-
-sub-number-of : tie.Need-sub-number-of
-sub-number-of c = search needs
-
-part-number-of-start : tie.Need-part-number-of-start
-part-number-of-start c = search needs
-
-part-number-of-end : tie.Need-part-number-of-end
-part-number-of-end c = search needs
-
-number-of-requires : tie.Need-number-of-requires
-number-of-requires c κs = search needs
-
 returns : tie.Need-returns
 returns c =
     made (c .before .before .before .before .before .before .before .before .before .before .before .args .bytes .now)
@@ -75,19 +30,19 @@ pub state-of-spec : {M : Type 1} → statement M
 state-of-spec =
     tie.close
     (tie.spec
-    head-of-requires
-    sub-marks-of
-    part-marks-of-start
-    part-marks-of-end
-    marks-of-requires
-    word32-at-requires
-    sub-signed-list
-    part-signed-list-start
-    part-signed-list-end
-    slice-aggregate-signed-list
-    signed-list-requires
-    sub-number-of
-    part-number-of-start
-    part-number-of-end
-    number-of-requires
+    (λ c κs. search needs)
+    (λ c. search needs)
+    (λ c. search needs)
+    (λ c. search needs)
+    (λ c κs. search needs)
+    (λ c κs. search needs)
+    (λ c. search needs)
+    (λ c. search needs)
+    (λ c. search needs)
+    (λ c. search needs)
+    (λ c κs. search needs)
+    (λ c. search needs)
+    (λ c. search needs)
+    (λ c. search needs)
+    (λ c κs. search needs)
     returns)
