@@ -11,15 +11,6 @@ use Rattle.baseline.proofs.Bounds.{chosen-days-back, choice-back}
 use Rattle.baseline.proofs.chosen_days.Statement.{statement}
 use Rattle.baseline.proofs.chosen_days.Tie as tie
 
-eligible-days-requires : tie.Need-eligible-days-requires
-eligible-days-requires c κs = search needs
-
-window-sums-requires : tie.Need-window-sums-requires
-window-sums-requires c κs = search needs
-
-slice-aggregate-choose : tie.Need-slice-aggregate-choose
-slice-aggregate-choose c = search needs
-
 choose-requires : tie.Need-choose-requires
 choose-requires c κs =
     let s = c .before .before .before .before in
@@ -38,8 +29,8 @@ pub chosen-days-spec : {M : Type 1} → statement M
 chosen-days-spec =
     tie.close
     (tie.spec
-    eligible-days-requires
-    window-sums-requires
-    slice-aggregate-choose
+    (λ c κs. search needs)
+    (λ c κs. search needs)
+    (λ c. search needs)
     choose-requires
     returns)

@@ -5,35 +5,17 @@ use Rattle.readings.proofs.Sums.{six-places}
 use Rattle.baseline.proofs.sum_of_six.Statement.{statement}
 use Rattle.baseline.proofs.sum_of_six.Tie as tie
 
-array-read-result : tie.Need-array-read-result
-array-read-result c = search needs
-
-array-read-result-2 : tie.Need-array-read-result-2
-array-read-result-2 c = search needs
-
 add-result : tie.Need-add-result
 add-result c = let p = c .pre in omega (arith, p 0, p 1, p 2, p 3, p 4, p 5)
-
-array-read-result-3 : tie.Need-array-read-result-3
-array-read-result-3 c = search needs
 
 add-result-2 : tie.Need-add-result-2
 add-result-2 c = let p = c .pre in omega (arith, p 0, p 1, p 2, p 3, p 4, p 5)
 
-array-read-result-4 : tie.Need-array-read-result-4
-array-read-result-4 c = search needs
-
 add-result-3 : tie.Need-add-result-3
 add-result-3 c = let p = c .pre in omega (arith, p 0, p 1, p 2, p 3, p 4, p 5)
 
-array-read-result-5 : tie.Need-array-read-result-5
-array-read-result-5 c = search needs
-
 add-result-4 : tie.Need-add-result-4
 add-result-4 c = let p = c .pre in omega (arith, p 0, p 1, p 2, p 3, p 4, p 5)
-
-array-read-result-6 : tie.Need-array-read-result-6
-array-read-result-6 c = search needs
 
 add-result-5 : tie.Need-add-result-5
 add-result-5 c = let p = c .pre in omega (arith, p 0, p 1, p 2, p 3, p 4, p 5)
@@ -48,15 +30,15 @@ pub sum-of-six-spec : {M : Type 1} → statement M
 sum-of-six-spec =
     tie.close
     (tie.spec
-    array-read-result
-    array-read-result-2
+    (λ c. search needs)
+    (λ c. search needs)
     add-result
-    array-read-result-3
+    (λ c. search needs)
     add-result-2
-    array-read-result-4
+    (λ c. search needs)
     add-result-3
-    array-read-result-5
+    (λ c. search needs)
     add-result-4
-    array-read-result-6
+    (λ c. search needs)
     add-result-5
     returns)

@@ -20,15 +20,6 @@ loop-holds c = (search needs, refl, c .pre, refl)
 shared-slice-read-marks : tie.Need-shared-slice-read-marks Inv-loop μ-loop
 shared-slice-read-marks c = omega arith
 
-array-write-marks : tie.Need-array-write-marks Inv-loop μ-loop
-array-write-marks c = search needs
-
-add-i : tie.Need-add-i Inv-loop μ-loop
-add-i c = search needs
-
-loop-less : tie.Need-loop-less Inv-loop μ-loop
-loop-less c = search needs
-
 loop-again : tie.Need-loop-again Inv-loop μ-loop
 loop-again c =
     let l = c .before .before .loop in
@@ -45,8 +36,8 @@ marks-of-spec =
     μ-loop
     loop-holds
     shared-slice-read-marks
-    array-write-marks
-    add-i
-    loop-less
+    (λ c. search needs)
+    (λ c. search needs)
+    (λ c. search needs)
     loop-again
     returns)

@@ -6,15 +6,6 @@ use borrow.Author.Needs.{needs}
 use Rattle.points.proofs.loss_of.Statement.{statement}
 use Rattle.points.proofs.loss_of.Tie as tie
 
-array-read-result : tie.Need-array-read-result
-array-read-result c = search needs
-
-array-read-result-2 : tie.Need-array-read-result-2
-array-read-result-2 c = search needs
-
-array-read-result-3 : tie.Need-array-read-result-3
-array-read-result-3 c = search needs
-
 returns : tie.Need-returns
 returns c = let e : 0 ≡ c .before .args .class - 1 = omega arith in ap (λ (i : ℕ). getD (c .before .args .t1) i 0) e
 
@@ -28,9 +19,9 @@ pub loss-of-spec : {M : Type 1} → statement M
 loss-of-spec =
     tie.close
     (tie.spec
-    array-read-result
-    array-read-result-2
-    array-read-result-3
+    (λ c. search needs)
+    (λ c. search needs)
+    (λ c. search needs)
     returns
     returns-2
     returns-3)

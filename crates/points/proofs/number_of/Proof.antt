@@ -22,15 +22,6 @@ loop-holds c = (search needs, refl, c .pre, length-take-le 22 (c .args .value .n
 shared-slice-read-number : tie.Need-shared-slice-read-number Inv-loop μ-loop
 shared-slice-read-number c = omega arith
 
-array-write-number : tie.Need-array-write-number Inv-loop μ-loop
-array-write-number c = search needs
-
-add-i : tie.Need-add-i Inv-loop μ-loop
-add-i c = search needs
-
-loop-less : tie.Need-loop-less Inv-loop μ-loop
-loop-less c = search needs
-
 loop-again : tie.Need-loop-again Inv-loop μ-loop
 loop-again c =
     let l = c .before .before .loop in
@@ -53,8 +44,8 @@ number-of-spec =
     μ-loop
     loop-holds
     shared-slice-read-number
-    array-write-number
-    add-i
-    loop-less
+    (λ c. search needs)
+    (λ c. search needs)
+    (λ c. search needs)
     loop-again
     returns)

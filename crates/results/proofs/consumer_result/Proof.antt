@@ -8,24 +8,6 @@ use borrow.Author.Needs.{needs, sfits-of}
 use Rattle.results.proofs.consumer_result.Statement.{statement}
 use Rattle.results.proofs.consumer_result.Tie as tie
 
-mul-minus : tie.Need-mul-minus
-mul-minus c = search needs
-
-mul-minus-2 : tie.Need-mul-minus-2
-mul-minus-2 c = search needs
-
-minus-requires : tie.Need-minus-requires
-minus-requires c κs = search needs
-
-sub-floor-div : tie.Need-sub-floor-div
-sub-floor-div c = search needs
-
-mul-floor-div : tie.Need-mul-floor-div
-mul-floor-div c = search needs
-
-floor-div-requires : tie.Need-floor-div-requires
-floor-div-requires c κs = search needs
-
 returns : tie.Need-returns
 returns c =
     toZ-ofZ (sfits-of (c .floor-div .ok))
@@ -37,10 +19,10 @@ pub consumer-result-spec : {M : Type 1} → statement M
 consumer-result-spec =
     tie.close
     (tie.spec
-    mul-minus
-    mul-minus-2
-    minus-requires
-    sub-floor-div
-    mul-floor-div
-    floor-div-requires
+    (λ c. search needs)
+    (λ c. search needs)
+    (λ c κs. search needs)
+    (λ c. search needs)
+    (λ c. search needs)
+    (λ c κs. search needs)
     returns)

@@ -5,14 +5,8 @@ use borrow.Author.Needs.{needs, sfits-of}
 use Rattle.results.proofs.generator_result.Statement.{statement}
 use Rattle.results.proofs.generator_result.Tie as tie
 
-mul-minus : tie.Need-mul-minus
-mul-minus c = search needs
-
-minus-requires : tie.Need-minus-requires
-minus-requires c κs = search needs
-
 returns : tie.Need-returns
 returns c = toZ-ofZ (sfits-of (c .minus .ok)) ∙ c .minus .ensures ∙ sym (floor-one _)
 
 pub generator-result-spec : {M : Type 1} → statement M
-generator-result-spec = tie.close (tie.spec mul-minus minus-requires returns)
+generator-result-spec = tie.close (tie.spec (λ c. search needs) (λ c κs. search needs) returns)

@@ -9,23 +9,8 @@ use borrow.Author.Needs.{needs}
 use Rattle.baseline.proofs.choosing.choose.Statement.{statement}
 use Rattle.baseline.proofs.choosing.choose.Tie as tie
 
-walk-requires : tie.Need-walk-requires
-walk-requires c κs = search needs
-
 returns : tie.Need-returns
 returns c = sym (none-enough (daysFrom 1 (c .before .before .before .before .args .eligible)) (c .before .before .walk .ensures) (omega arith))
-
-array-read-t13 : tie.Need-array-read-t13
-array-read-t13 c = search needs
-
-array-read-t16 : tie.Need-array-read-t16
-array-read-t16 c = search needs
-
-array-read-t19 : tie.Need-array-read-t19
-array-read-t19 c = search needs
-
-array-read-t22 : tie.Need-array-read-t22
-array-read-t22 c = search needs
 
 returns-2 : tie.Need-returns-2
 returns-2 c = sym (all-four (daysFrom 1 (c .before .before .before .before .before .args .eligible)) (c .before .before .before .walk .ensures) (c .if2 .taken))
@@ -53,12 +38,12 @@ pub choose-spec : {M : Type 1} → statement M
 choose-spec =
     tie.close
     (tie.spec
-    walk-requires
+    (λ c κs. search needs)
     returns
-    array-read-t13
-    array-read-t16
-    array-read-t19
-    array-read-t22
+    (λ c. search needs)
+    (λ c. search needs)
+    (λ c. search needs)
+    (λ c. search needs)
     returns-2
     lowest-of-requires
     without-requires

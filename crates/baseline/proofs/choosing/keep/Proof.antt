@@ -43,9 +43,6 @@ loop-holds : tie.Need-loop-holds Inv-loop μ-loop
 unfolding filter sum
 loop-holds c = (search needs, search needs, search needs, refl, refl, refl, c .pre .held .all ∙ sym (zero-add _))
 
-mul-day : tie.Need-mul-day Inv-loop μ-loop
-mul-day c = search needs
-
 -- the day in hand
 in-range : (c : lts.In-loop reads.Pre reads.Post Inv-loop μ-loop)
     → (0 < getD (c .before .loop .days) (c .before .loop .i) 0) × (getD (c .before .loop .days) (c .before .loop .i) 0 ≤ 30)
@@ -71,14 +68,8 @@ mul-if1 c =
     let l = c .before .before .before .loop in
     omega (arith, c .before .before .before .before .pre .windows .small (getD (l .days) (l .i) 0 - 1))
 
-mul-days : tie.Need-mul-days Inv-loop μ-loop
-mul-days c = search needs
-
 slice-write-days : tie.Need-slice-write-days Inv-loop μ-loop
 slice-write-days c = omega arith
-
-add-count : tie.Need-add-count Inv-loop μ-loop
-add-count c = search needs
 
 sub-left : tie.Need-sub-left Inv-loop μ-loop
 sub-left c =
@@ -86,12 +77,6 @@ sub-left c =
     let l = c .before .before .before .before .loop in
     let here = same-here (l .days) (s .args .days .now) (l .i) (l .inv .3) in
     rw here (omega (arith, l .inv .6, sum-drop (ofDay (s .args .sums .now)) (s .args .days .now) (l .i) (omega arith)))
-
-add-i : tie.Need-add-i Inv-loop μ-loop
-add-i c = search needs
-
-loop-less : tie.Need-loop-less Inv-loop μ-loop
-loop-less c = search needs
 
 loop-again : tie.Need-loop-again Inv-loop μ-loop
 loop-again c =
@@ -148,18 +133,18 @@ keep-spec =
     Inv-loop
     μ-loop
     loop-holds
-    mul-day
+    (λ c. search needs)
     slice-read-day
     sub-sum
     mul-sum
     shared-slice-read-sum
     mul-if1
-    mul-days
+    (λ c. search needs)
     slice-write-days
-    add-count
+    (λ c. search needs)
     sub-left
-    add-i
-    loop-less
+    (λ c. search needs)
+    (λ c. search needs)
     loop-again
     same-length
     returns)

@@ -19,17 +19,8 @@ Inv-loop sums days low₀ i₀ low i =
 abbrev μ-loop : tie.MeasureT-loop
 μ-loop sums days low₀ i₀ low i = 5 - i
 
-array-read-low : tie.Need-array-read-low Inv-loop μ-loop
-array-read-low c = search needs
-
 loop-holds : tie.Need-loop-holds Inv-loop μ-loop
 loop-holds c = let r = rising-at 0 (omega arith) (c .pre .1) in (omega arith, omega arith, omega arith, refl)
-
-mul-day : tie.Need-mul-day Inv-loop μ-loop
-mul-day c = search needs
-
-array-read-day : tie.Need-array-read-day Inv-loop μ-loop
-array-read-day c = search needs
 
 sub-if1 : tie.Need-sub-if1 Inv-loop μ-loop
 sub-if1 c = omega (arith, rising-at (c .before .loop .i) (omega arith) (c .before .before .pre .1))
@@ -40,20 +31,8 @@ mul-if1 c = omega (arith, rising-at (c .before .loop .i) (omega arith) (c .befor
 shared-slice-read-if1 : tie.Need-shared-slice-read-if1 Inv-loop μ-loop
 shared-slice-read-if1 c = omega (arith, rising-at (c .before .before .loop .i) (omega arith) (c .before .before .before .pre .1))
 
-sub-if1-2 : tie.Need-sub-if1-2 Inv-loop μ-loop
-sub-if1-2 c = search needs
-
-mul-if1-2 : tie.Need-mul-if1-2 Inv-loop μ-loop
-mul-if1-2 c = search needs
-
 shared-slice-read-if1-2 : tie.Need-shared-slice-read-if1-2 Inv-loop μ-loop
 shared-slice-read-if1-2 c = omega arith
-
-add-i : tie.Need-add-i Inv-loop μ-loop
-add-i c = search needs
-
-loop-less : tie.Need-loop-less Inv-loop μ-loop
-loop-less c = search needs
 
 loop-again : tie.Need-loop-again Inv-loop μ-loop
 loop-again c =
@@ -78,17 +57,17 @@ lowest-of-spec =
     (tie.spec
     Inv-loop
     μ-loop
-    array-read-low
+    (λ c. search needs)
     loop-holds
-    mul-day
-    array-read-day
+    (λ c. search needs)
+    (λ c. search needs)
     sub-if1
     mul-if1
     shared-slice-read-if1
-    sub-if1-2
-    mul-if1-2
+    (λ c. search needs)
+    (λ c. search needs)
     shared-slice-read-if1-2
-    add-i
-    loop-less
+    (λ c. search needs)
+    (λ c. search needs)
     loop-again
     returns)

@@ -28,23 +28,8 @@ walk-holds c = (search needs, search needs, begin _ _ _ refl)
 loop-holds : tie.Need-loop-holds Inv-loop μ-loop Inv-walk μ-walk
 loop-holds c = (omega arith, omega arith, c .walk .inv .2)
 
-array-read-if2 : tie.Need-array-read-if2 Inv-loop μ-loop Inv-walk μ-walk
-array-read-if2 c = search needs
-
-add-days : tie.Need-add-days Inv-loop μ-loop Inv-walk μ-walk
-add-days c = search needs
-
-mul-days : tie.Need-mul-days Inv-loop μ-loop Inv-walk μ-walk
-mul-days c = search needs
-
 array-write-days : tie.Need-array-write-days Inv-loop μ-loop Inv-walk μ-walk
 array-write-days c = omega arith
-
-add-count : tie.Need-add-count Inv-loop μ-loop Inv-walk μ-walk
-add-count c = search needs
-
-mul-all : tie.Need-mul-all Inv-loop μ-loop Inv-walk μ-walk
-mul-all c = search needs
 
 shared-slice-read-all : tie.Need-shared-slice-read-all Inv-loop μ-loop Inv-walk μ-walk
 shared-slice-read-all c = omega arith
@@ -54,9 +39,6 @@ add-all c =
     let l = c .before .before .before .before .loop in
     let sums-fit = c .before .before .before .before .before .before .before .pre .small in
     omega (arith, bounded (l .inv .2) 6_000_000_000 sums-fit, sums-fit (l .k))
-
-add-k : tie.Need-add-k Inv-loop μ-loop Inv-walk μ-walk
-add-k c = search needs
 
 loop-less : tie.Need-loop-less Inv-loop μ-loop Inv-walk μ-walk
 loop-less c = omega arith
@@ -105,15 +87,15 @@ walk-spec =
     μ-walk
     walk-holds
     loop-holds
-    array-read-if2
-    add-days
-    mul-days
+    (λ c. search needs)
+    (λ c. search needs)
+    (λ c. search needs)
     array-write-days
-    add-count
-    mul-all
+    (λ c. search needs)
+    (λ c. search needs)
     shared-slice-read-all
     add-all
-    add-k
+    (λ c. search needs)
     loop-less
     loop-again
     slice-aggregate-keep

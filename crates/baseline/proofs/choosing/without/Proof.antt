@@ -30,29 +30,11 @@ loop-holds : tie.Need-loop-holds Inv-loop μ-loop
 unfolding filter
 loop-holds c = (search needs, search needs, search needs, refl, refl)
 
-mul-day : tie.Need-mul-day Inv-loop μ-loop
-mul-day c = search needs
-
-array-read-day : tie.Need-array-read-day Inv-loop μ-loop
-array-read-day c = search needs
-
-mul-four : tie.Need-mul-four Inv-loop μ-loop
-mul-four c = search needs
-
 array-write-four : tie.Need-array-write-four Inv-loop μ-loop
 array-write-four c =
     let s = c .before .before .before in
     let l = c .before .before .loop in
     omega (arith, keep-room (other (s .args .low)) (s .args .t1) (l .i) (omega arith) (rw (ne-eqb _ _ (c .if1 .taken))))
-
-add-count : tie.Need-add-count Inv-loop μ-loop
-add-count c = search needs
-
-add-i : tie.Need-add-i Inv-loop μ-loop
-add-i c = search needs
-
-loop-less : tie.Need-loop-less Inv-loop μ-loop
-loop-less c = search needs
 
 loop-again : tie.Need-loop-again Inv-loop μ-loop
 loop-again c =
@@ -92,12 +74,12 @@ without-spec =
     Inv-loop
     μ-loop
     loop-holds
-    mul-day
-    array-read-day
-    mul-four
+    (λ c. search needs)
+    (λ c. search needs)
+    (λ c. search needs)
     array-write-four
-    add-count
-    add-i
-    loop-less
+    (λ c. search needs)
+    (λ c. search needs)
+    (λ c. search needs)
     loop-again
     returns)

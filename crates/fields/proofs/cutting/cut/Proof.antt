@@ -8,9 +8,6 @@ use borrow.Author.Needs.{needs}
 use Rattle.fields.proofs.cutting.cut.Statement.{statement}
 use Rattle.fields.proofs.cutting.cut.Tie as tie
 
-header-refusal-requires : tie.Need-header-refusal-requires
-header-refusal-requires c κs = search needs
-
 returns : tie.Need-returns
 returns c =
     let e = c .before .header-refusal .ensures in
@@ -20,12 +17,6 @@ shared-slice-read-tag : tie.Need-shared-slice-read-tag
 shared-slice-read-tag c =
     let s = c .before .before .before .before in
     omega (arith, header-shows (s .args .due) (s .args .left .now) (sym (c .before .before .header-refusal .ensures) ∙ c .before .if1 .left))
-
-length-due-requires : tie.Need-length-due-requires
-length-due-requires c κs = search needs
-
-add-if2 : tie.Need-add-if2
-add-if2 c = search needs
 
 returns-2 : tie.Need-returns-2
 returns-2 c =
@@ -41,10 +32,10 @@ pub cut-spec : {M : Type 1} → statement M
 cut-spec =
     tie.close
     (tie.spec
-    header-refusal-requires
+    (λ c κs. search needs)
     returns
     shared-slice-read-tag
-    length-due-requires
-    add-if2
+    (λ c κs. search needs)
+    (λ c. search needs)
     returns-2
     returns-3)

@@ -10,26 +10,14 @@ use borrow.Author.Needs.{needs}
 use Rattle.fields.proofs.writing.point_refusal.Statement.{statement}
 use Rattle.fields.proofs.writing.point_refusal.Tie as tie
 
-form-refusal-requires : tie.Need-form-refusal-requires
-form-refusal-requires c κs = search needs
-
 returns : tie.Need-returns
 returns c = let e = c .before .form-refusal .ensures in rw e (sym (form-told _ _ (rw e at (c .if1 .taken))))
-
-sub-is-number : tie.Need-sub-is-number
-sub-is-number c = search needs
-
-part-is-number-start : tie.Need-part-is-number-start
-part-is-number-start c = search needs
 
 part-is-number-end : tie.Need-part-is-number-end
 part-is-number-end c =
     let s = c .before .before .before in
     let e = sym (c .before .form-refusal .ensures) ∙ c .if1 .left in
     omega (arith, long-enough (s .args .tag) (length (s .args .value .now)) e)
-
-is-number-requires : tie.Need-is-number-requires
-is-number-requires c κs = search needs
 
 returns-2 : tie.Need-returns-2
 returns-2 c =
@@ -55,12 +43,12 @@ pub point-refusal-spec : {M : Type 1} → statement M
 point-refusal-spec =
     tie.close
     (tie.spec
-    form-refusal-requires
+    (λ c κs. search needs)
     returns
-    sub-is-number
-    part-is-number-start
+    (λ c. search needs)
+    (λ c. search needs)
     part-is-number-end
-    is-number-requires
+    (λ c κs. search needs)
     returns-2
     value-refusal-requires
     returns-3)

@@ -16,23 +16,8 @@ Inv-loop tag value out₀ size i₀ out i = (i ≤ size) × (size ≡ length val
 abbrev μ-loop : tie.MeasureT-loop
 μ-loop tag value out₀ size i₀ out i = size - i
 
-cast-length-bytes : tie.Need-cast-length-bytes Inv-loop μ-loop
-cast-length-bytes c = search needs
-
-length-bytes-requires : tie.Need-length-bytes-requires Inv-loop μ-loop
-length-bytes-requires c κs = search needs
-
-slice-write-out : tie.Need-slice-write-out Inv-loop μ-loop
-slice-write-out c = search needs
-
-array-read-out : tie.Need-array-read-out Inv-loop μ-loop
-array-read-out c = search needs
-
 slice-write-out-2 : tie.Need-slice-write-out-2 Inv-loop μ-loop
 slice-write-out-2 c = lt-length-set (c .before .before .before .args .out .now) 0 (c .before .before .before .args .tag) (omega arith)
-
-array-read-out-2 : tie.Need-array-read-out-2 Inv-loop μ-loop
-array-read-out-2 c = search needs
 
 slice-write-out-3 : tie.Need-slice-write-out-3 Inv-loop μ-loop
 slice-write-out-3 c =
@@ -45,12 +30,6 @@ loop-holds c =
     let o = headed (s .args .out .now) (s .args .tag) (c .length-bytes .result) in
     (search needs, refl, omega (arith, headed-length (s .args .out .now) (s .args .tag) (c .length-bytes .result)), paste-zero o 3 (s .args .value .now))
 
-shared-slice-read-out : tie.Need-shared-slice-read-out Inv-loop μ-loop
-shared-slice-read-out c = search needs
-
-add-out : tie.Need-add-out Inv-loop μ-loop
-add-out c = search needs
-
 slice-write-out-4 : tie.Need-slice-write-out-4 Inv-loop μ-loop
 slice-write-out-4 c =
     let a = c .before .before .before in
@@ -58,12 +37,6 @@ slice-write-out-4 c =
     let o = headed (s .args .out .now) (s .args .tag) (a .length-bytes .result) in
     let l = c .before .before .loop in
     omega (arith, ap length (l .inv .3) ∙ length-paste o 3 (s .args .value .now) (l .i) (omega arith) (omega arith))
-
-add-i : tie.Need-add-i Inv-loop μ-loop
-add-i c = search needs
-
-loop-less : tie.Need-loop-less Inv-loop μ-loop
-loop-less c = search needs
 
 loop-again : tie.Need-loop-again Inv-loop μ-loop
 loop-again c =
@@ -104,19 +77,19 @@ put-field-spec =
     (tie.spec
     Inv-loop
     μ-loop
-    cast-length-bytes
-    length-bytes-requires
-    slice-write-out
-    array-read-out
+    (λ c. search needs)
+    (λ c κs. search needs)
+    (λ c. search needs)
+    (λ c. search needs)
     slice-write-out-2
-    array-read-out-2
+    (λ c. search needs)
     slice-write-out-3
     loop-holds
-    shared-slice-read-out
-    add-out
+    (λ c. search needs)
+    (λ c. search needs)
     slice-write-out-4
-    add-i
-    loop-less
+    (λ c. search needs)
+    (λ c. search needs)
     loop-again
     same-length
     returns)

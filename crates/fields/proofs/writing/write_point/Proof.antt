@@ -6,14 +6,8 @@ use borrow.Author.Needs.{needs}
 use Rattle.fields.proofs.writing.write_point.Statement.{statement}
 use Rattle.fields.proofs.writing.write_point.Tie as tie
 
-point-refusal-requires : tie.Need-point-refusal-requires
-point-refusal-requires c κs = search needs
-
 returns : tie.Need-returns
 returns c = let e = c .before .point-refusal .ensures in rw e (point-refused _ _ _ (rw e at (c .if1 .taken)))
-
-add-if2 : tie.Need-add-if2
-add-if2 c = search needs
 
 returns-2 : tie.Need-returns-2
 returns-2 c = point-room _ _ _ (sym (c .before .before .point-refusal .ensures) ∙ c .before .if1 .left) (c .if2 .taken)
@@ -24,9 +18,6 @@ put-field-requires c κs =
     let s = o .before .before .before in
     let e = sym (o .point-refusal .ensures) ∙ c .before .before .if1 .left in
     (told-small (s .args .tag) (s .args .value .now) (s .args .out .now) e, omega arith)
-
-same-length : tie.Need-same-length
-same-length c = search needs
 
 returns-3 : tie.Need-returns-3
 returns-3 c =
@@ -41,10 +32,10 @@ pub write-point-spec : {M : Type 1} → statement M
 write-point-spec =
     tie.close
     (tie.spec
-    point-refusal-requires
+    (λ c κs. search needs)
     returns
-    add-if2
+    (λ c. search needs)
     returns-2
     put-field-requires
-    same-length
+    (λ c. search needs)
     returns-3)

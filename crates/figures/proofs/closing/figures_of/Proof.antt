@@ -8,25 +8,10 @@ use borrow.Author.Needs.{needs, sfits-of}
 use Rattle.figures.proofs.closing.figures_of.Statement.{statement}
 use Rattle.figures.proofs.closing.figures_of.Tie as tie
 
-total-of-requires : tie.Need-total-of-requires
-total-of-requires c κs = search needs
-
-floor-div-requires : tie.Need-floor-div-requires
-floor-div-requires c κs = search needs
-
 shortfall-of-requires : tie.Need-shortfall-of-requires
 shortfall-of-requires c κs =
     let f = sfits-of {w = w64} {z = c .before .total-of .result} (c .before .total-of .ok) in
     rw (toZ-ofZ (sfits-of (c .floor-div .ok)), c .floor-div .ensures, toZ-ofZ f) (settled-small (c .before .total-of .result) (f .sfits))
-
-or-zero-requires : tie.Need-or-zero-requires
-or-zero-requires c κs = search needs
-
-smaller-requires : tie.Need-smaller-requires
-smaller-requires c κs = search needs
-
-sub-t9 : tie.Need-sub-t9
-sub-t9 c = search needs
 
 returns : tie.Need-returns
 unfolding figuresOf
@@ -40,10 +25,10 @@ pub figures-of-spec : {M : Type 1} → statement M
 figures-of-spec =
     tie.close
     (tie.spec
-    total-of-requires
-    floor-div-requires
+    (λ c κs. search needs)
+    (λ c κs. search needs)
     shortfall-of-requires
-    or-zero-requires
-    smaller-requires
-    sub-t9
+    (λ c κs. search needs)
+    (λ c κs. search needs)
+    (λ c. search needs)
     returns)

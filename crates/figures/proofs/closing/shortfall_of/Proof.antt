@@ -15,20 +15,11 @@ use Rattle.integers.proofs.size_of.Reads as size-of-reads
 size : (c : lts.After-size-of (size-of-reads.Asked, size-of-reads.Learnt, or-zero-reads.Asked, or-zero-reads.Learnt) reads.Pre reads.Post) → c .size-of .result ≡ natAbs (c .before .before .args .settled)
 size c = rw (toZ-ofZ (c .before .before .fits .settled)) at (c .size-of .ensures)
 
-size-of-requires : tie.Need-size-of-requires
-size-of-requires c κs = search needs
-
 add-result : tie.Need-add-result
 add-result c = record { fits = omega (arith, size c) }
 
 returns : tie.Need-returns
 returns c = let s = c .before .before in rw (size c) (shortfall-below (s .args .contract) (s .args .settled) (rw (toZ-ofZ (s .fits .settled)) at (c .before .if1 .taken)))
-
-or-zero-requires : tie.Need-or-zero-requires
-or-zero-requires c κs = search needs
-
-sub-result : tie.Need-sub-result
-sub-result c = search needs
 
 returns-2 : tie.Need-returns-2
 returns-2 c =
@@ -45,4 +36,4 @@ returns-3 c =
 pub shortfall-of-spec : {M : Type 1} → statement M
 shortfall-of-spec =
     tie.close
-    (tie.spec size-of-requires add-result returns or-zero-requires sub-result returns-2 returns-3)
+    (tie.spec (λ c κs. search needs) add-result returns (λ c κs. search needs) (λ c. search needs) returns-2 returns-3)

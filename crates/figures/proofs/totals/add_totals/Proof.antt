@@ -24,34 +24,10 @@ loop-holds c =
     let b : length (c .args .t2) ≡ 6 = search needs in
     (search needs, a, b, plus-length _ _ (a ∙ sym b) ∙ a, refl)
 
-mul-add-bounded : tie.Need-mul-add-bounded Inv-loop μ-loop
-mul-add-bounded c = search needs
-
-array-copy-out-add-bounded : tie.Need-array-copy-out-add-bounded Inv-loop μ-loop
-array-copy-out-add-bounded c = search needs
-
-mul-add-bounded-2 : tie.Need-mul-add-bounded-2 Inv-loop μ-loop
-mul-add-bounded-2 c = search needs
-
-array-copy-out-add-bounded-2 : tie.Need-array-copy-out-add-bounded-2 Inv-loop μ-loop
-array-copy-out-add-bounded-2 c = search needs
-
 add-bounded-requires : tie.Need-add-bounded-requires Inv-loop μ-loop
 add-bounded-requires c κs =
     let s = c .before .before .before .before in
     rw (toZ-ofZ (sfits-of (c .before .add-bounded-arg .given)), toZ-ofZ (sfits-of (c .add-bounded-arg2 .given))) (s .pre (c .before .before .before .loop .slot))
-
-mul-sums : tie.Need-mul-sums Inv-loop μ-loop
-mul-sums c = search needs
-
-array-set-from-sums : tie.Need-array-set-from-sums Inv-loop μ-loop
-array-set-from-sums c = search needs
-
-add-slot : tie.Need-add-slot Inv-loop μ-loop
-add-slot c = search needs
-
-loop-less : tie.Need-loop-less Inv-loop μ-loop
-loop-less c = search needs
 
 loop-again : tie.Need-loop-again Inv-loop μ-loop
 loop-again c =
@@ -73,14 +49,14 @@ add-totals-spec =
     Inv-loop
     μ-loop
     loop-holds
-    mul-add-bounded
-    array-copy-out-add-bounded
-    mul-add-bounded-2
-    array-copy-out-add-bounded-2
+    (λ c. search needs)
+    (λ c. search needs)
+    (λ c. search needs)
+    (λ c. search needs)
     add-bounded-requires
-    mul-sums
-    array-set-from-sums
-    add-slot
-    loop-less
+    (λ c. search needs)
+    (λ c. search needs)
+    (λ c. search needs)
+    (λ c. search needs)
     loop-again
     returns)

@@ -22,26 +22,11 @@ abbrev μ-loop : tie.MeasureT-loop
 loop-holds : tie.Need-loop-holds Inv-loop μ-loop
 loop-holds c = (search needs, search needs, refl)
 
-mul-size-of : tie.Need-mul-size-of Inv-loop μ-loop
-mul-size-of c = search needs
-
-array-copy-out-size-of : tie.Need-array-copy-out-size-of Inv-loop μ-loop
-array-copy-out-size-of c = search needs
-
-size-of-requires : tie.Need-size-of-requires Inv-loop μ-loop
-size-of-requires c κs = search needs
-
 returns : tie.Need-returns Inv-loop μ-loop
 returns c =
     let s = c .before .before .before .before .before in
     let l = c .before .before .before .before .loop in
     sym (l .inv .2 ∙ any-here _ (s .args .t1) (l .i) (pos 0) (omega arith) (lt-ltb _ _ (rw (c .before .size-of .ensures, toZ-ofZ (sfits-of (c .before .before .size-of-arg .given))) at (c .if1 .taken))))
-
-add-i : tie.Need-add-i Inv-loop μ-loop
-add-i c = search needs
-
-loop-less : tie.Need-loop-less Inv-loop μ-loop
-loop-less c = search needs
 
 loop-again : tie.Need-loop-again Inv-loop μ-loop
 loop-again c =
@@ -62,11 +47,11 @@ has-beyond-spec =
     Inv-loop
     μ-loop
     loop-holds
-    mul-size-of
-    array-copy-out-size-of
-    size-of-requires
+    (λ c. search needs)
+    (λ c. search needs)
+    (λ c κs. search needs)
     returns
-    add-i
-    loop-less
+    (λ c. search needs)
+    (λ c. search needs)
     loop-again
     returns-2)

@@ -19,23 +19,8 @@ abbrev μ-loop : tie.MeasureT-loop
 loop-holds : tie.Need-loop-holds Inv-loop μ-loop
 loop-holds c = (search needs, search needs, search needs, refl)
 
-mul-places : tie.Need-mul-places Inv-loop μ-loop
-mul-places c = search needs
-
-array-copy-out-places : tie.Need-array-copy-out-places Inv-loop μ-loop
-array-copy-out-places c = search needs
-
-mul-t10 : tie.Need-mul-t10 Inv-loop μ-loop
-mul-t10 c = search needs
-
 slice-set-from-places : tie.Need-slice-set-from-places Inv-loop μ-loop
 slice-set-from-places c = let l = c .before .before .loop in omega (arith, ap length (l .inv .3) ∙ front-length _ _ (l .place) (omega arith) (omega arith))
-
-add-place : tie.Need-add-place Inv-loop μ-loop
-add-place c = search needs
-
-loop-less : tie.Need-loop-less Inv-loop μ-loop
-loop-less c = search needs
 
 loop-again : tie.Need-loop-again Inv-loop μ-loop
 loop-again c =
@@ -55,12 +40,12 @@ put-spec =
     Inv-loop
     μ-loop
     loop-holds
-    mul-places
-    array-copy-out-places
-    mul-t10
+    (λ c. search needs)
+    (λ c. search needs)
+    (λ c. search needs)
     slice-set-from-places
-    add-place
-    loop-less
+    (λ c. search needs)
+    (λ c. search needs)
     loop-again
     same-length
     returns)

@@ -61,18 +61,12 @@ numbers-next c = places-next (c .before) ∙ simp (eq-eqb _ _ (c .if3 .left))
 
 -- ---- the needs
 
-state-refusal-requires : tie.Need-state-refusal-requires
-state-refusal-requires c κs = search needs
-
 returns : tie.Need-returns
 unfolding earlyRefusal
 returns c =
     let s = c .before .before .before in
     let e = c .before .state-refusal .ensures in
     e ∙ sym (told (stateRows (s .args .state)) (forms s ++ from-places s) λ z. c .if1 .taken (e ∙ z))
-
-form-refusal-requires : tie.Need-form-refusal-requires
-form-refusal-requires c κs = search needs
 
 returns-2 : tie.Need-returns-2
 returns-2 c =
@@ -84,19 +78,10 @@ returns-2 c =
 returns-3 : tie.Need-returns-3
 returns-3 c = sym (places-next (c .before) ∙ simp (ne-eqb _ _ (c .if3 .taken)))
 
-sub-number-refusal : tie.Need-sub-number-refusal
-sub-number-refusal c = search needs
-
-part-number-refusal-start : tie.Need-part-number-refusal-start
-part-number-refusal-start c = search needs
-
 part-number-refusal-end : tie.Need-part-number-refusal-end
 part-number-refusal-end c =
     let s = start-3 (c .before) in
     omega (arith, long-enough (s .args .tag) (length (s .args .value .now)) (form-passed (c .before .before)))
-
-number-refusal-requires : tie.Need-number-refusal-requires
-number-refusal-requires c κs = search needs
 
 returns-4 : tie.Need-returns-4
 returns-4 c =
@@ -122,15 +107,15 @@ pub early-refusal-spec : {M : Type 1} → statement M
 early-refusal-spec =
     tie.close
     (tie.spec
-    state-refusal-requires
+    (λ c κs. search needs)
     returns
-    form-refusal-requires
+    (λ c κs. search needs)
     returns-2
     returns-3
-    sub-number-refusal
-    part-number-refusal-start
+    (λ c. search needs)
+    (λ c. search needs)
     part-number-refusal-end
-    number-refusal-requires
+    (λ c κs. search needs)
     returns-4
     value-refusal-requires
     returns-5)

@@ -7,20 +7,11 @@ use borrow.Author.Needs.{needs}
 use Rattle.ledger.proofs.adding.number_refusal.Statement.{statement}
 use Rattle.ledger.proofs.adding.number_refusal.Tie as tie
 
-is-number-requires : tie.Need-is-number-requires
-is-number-requires c κs = search needs
-
 returns : tie.Need-returns
 returns c = simp (ap not (sym (c .before .is-number .ensures)) ∙ c .if1 .taken)
 
 returns-2 : tie.Need-returns-2
 returns-2 c = simp (ap not (sym (c .before .before .is-number .ensures)) ∙ c .before .if1 .left, le-ltb 0 (c .before .before .before .before .args .points) (omega arith))
-
-slice-aggregate-is-below : tie.Need-slice-aggregate-is-below
-slice-aggregate-is-below c = search needs
-
-is-below-requires : tie.Need-is-below-requires
-is-below-requires c κs = search needs
 
 returns-3 : tie.Need-returns-3
 returns-3 c =
@@ -44,10 +35,10 @@ pub number-refusal-spec : {M : Type 1} → statement M
 number-refusal-spec =
     tie.close
     (tie.spec
-    is-number-requires
+    (λ c κs. search needs)
     returns
     returns-2
-    slice-aggregate-is-below
-    is-below-requires
+    (λ c. search needs)
+    (λ c κs. search needs)
     returns-3
     returns-4)

@@ -5,9 +5,6 @@ use borrow.Author.Needs.{needs}
 use Rattle.ledger.proofs.adding.state_refusal.Statement.{statement}
 use Rattle.ledger.proofs.adding.state_refusal.Tie as tie
 
-is-unsound-requires : tie.Need-is-unsound-requires
-is-unsound-requires c κs = search needs
-
 returns : tie.Need-returns
 returns c = simp (sym (c .before .is-unsound .ensures) ∙ c .if1 .taken)
 
@@ -18,4 +15,4 @@ returns-3 : tie.Need-returns-3
 returns-3 c = simp (sym (c .before .before .before .before .is-unsound .ensures) ∙ c .before .before .before .if1 .left, lt-leb _ _ (c .if2 .left))
 
 pub state-refusal-spec : {M : Type 1} → statement M
-state-refusal-spec = tie.close (tie.spec is-unsound-requires returns returns-2 returns-3)
+state-refusal-spec = tie.close (tie.spec (λ c κs. search needs) returns returns-2 returns-3)
