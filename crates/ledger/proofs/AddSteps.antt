@@ -1,11 +1,11 @@
 -- Adding in steps: the early refusals, then the days. Assumes nothing.
 use mathlib.Core.Path.{_≡_, refl}
-use mathlib.Core.Bool.{Bool, true, false, cond, not}
+use mathlib.Core.Bool.{false, not}
 use mathlib.Core.List.{List}
 use Prim.Native.Nat.{ℕ, _+_, _<_, _≤_}
 use native.Mathlib.Omega.{arith}
 use lib.IntN.{ℤ, pos, natAbs}
-use lib.ListN.{length, getD, replicate}
+use lib.ListN.{length, getD}
 use borrow.Author.Tests.{eq-eqb, ne-eqb}
 use Rattle.numbers.specs.Refusals.{firstOf}
 use Rattle.numbers.proofs.Refusals.{untold, told, passed}
@@ -16,7 +16,6 @@ use Rattle.ledger.specs.Operations.{daysRow, addingRefusal, earlyTests, 
 use Rattle.heads.specs.declared.Head.{Head}
 use Rattle.ledger.specs.declared.State.{State}
 use Rattle.results.specs.Steps.{foundOf}
-use Rattle.results.specs.declared.Found.{Found}
 use Rattle.heads.proofs.Opening.{opens}
 use Rattle.points.proofs.PointKinds.{known-length}
 use Rattle.ledger.proofs.Taking.{Given, given, result-small}
@@ -27,12 +26,7 @@ use Rattle.ledger.proofs.Sound.{Sound, sound, sound-is, total-small}
 module _ (h : Head) (marks : List ℕ) (kind : Kind) (value : List ℕ) where
   pub enough-is : foundOf h marks kind value .enough ≡ not (lacksDays h marks kind value)
   unfolding foundOf
-  enough-is = go (lacksDays h marks kind value) (results h marks kind value)
-    where
-      go : (few : Bool) (found : List ℤ)
-          → cond {A = Found} few (record { enough = false; found = replicate 6 (pos 0) }) (record { enough = true; found = found }) .enough ≡ not few
-      go true found = refl
-      go false found = refl
+  enough-is = refl
 
   pub found-is : lacksDays h marks kind value ≡ false → foundOf h marks kind value .found ≡ results h marks kind value
   unfolding foundOf
