@@ -7,7 +7,6 @@ ghost use Rattle.heads.specs.Limits.{lowClass, extraHighClass};
 ghost use Rattle.numbers.specs.PointNumbers.{numberLength};
 ghost use Rattle.points.specs.Points.{kindOf, sizeOf, numberOf, hasLarge};
 ghost use Rattle.points.specs.Points.{tagRow, formRows, classRow, baselineRow, unfitRow, valueRows};
-
 use numbers::NUMBER_LENGTH;
 use numbers::WINDOW_SLOTS;
 
@@ -114,8 +113,10 @@ fn has_large(tag: u8, value: &[u8]) -> bool
     ensures { λ r. ⌜ r ≡ hasLarge (kindOf tag) (now (value .entry)) ⌝ }
 {
     match tag {
-        CONSUMER => readings::first_large(&value[CONSUMER_READINGS_AT..], CONSUMER_READINGS) < CONSUMER_READINGS,
-        GENERATOR => readings::first_large(&value[GENERATOR_READINGS_AT..], WINDOW_SLOTS) < WINDOW_SLOTS,
+        CONSUMER => readings::first_large(&value[CONSUMER_READINGS_AT..], CONSUMER_READINGS)
+            < CONSUMER_READINGS,
+        GENERATOR => readings::first_large(&value[GENERATOR_READINGS_AT..], WINDOW_SLOTS)
+            < WINDOW_SLOTS,
         _ => false,
     }
 }

@@ -50,9 +50,10 @@ calendar-requires c κs =
     let a = first f .args in
     let x = f .put-field .last .1 .1 .0 in
     let e = first-length (written headTag (a .head .now)) (written calendarTag (a .calendar .now)) (a .out .now) x _ 20 (field-length f) (room f)
-    (f .put-field .ensures) refl in
-    (omega (arith, lengths (room-found f .before)),
-    omega (arith, e, lengths (room-found f .before), room-found f .if2 .left, length-take (length x - 20) (drop 20 x), length-drop 20 x))
+    (f .put-field .ensures) refl in (
+      omega (arith, lengths (room-found f .before)),
+      omega (arith, e, lengths (room-found f .before), room-found f .if2 .left, length-take (length x - 20) (drop 20 x), length-drop 20 x),
+    )
 
 returns-3 : tie.Need-returns-3
 returns-3 c =
