@@ -1,9 +1,8 @@
 -- What an accepted adding shows, and how large its slot results are. Assumes nothing.
-use mathlib.Core.Path.{_≡_, sym, _∙_}
+use mathlib.Core.Path.{_≡_, refl}
 use mathlib.Core.Bool.{false}
 use mathlib.Core.List.{List}
 use Prim.Native.Nat.{ℕ, _<_, _≤_}
-use native.Mathlib.Decide.{ℕ-discrete}
 use lib.Dec.{T, eqb}
 use lib.IntN.{pos, natAbs}
 use lib.ListN.{length, getD, length-map}
@@ -11,7 +10,7 @@ use mir.Facts.{eqb-yes}
 use borrow.Author.Tests.{leb-false}
 use Rattle.numbers.specs.PointNumbers.{isNumber}
 use Rattle.numbers.specs.Refusals.{firstOf}
-use Rattle.numbers.proofs.Refusals.{untold, told}
+use Rattle.numbers.proofs.Refusals.{untold, within, clear-zero}
 use Rattle.numbers.proofs.Tests.{noneOf, any-map}
 use Rattle.heads.specs.Limits.{mostResult}
 use Rattle.points.specs.Points.{Kind, kindOf, isUnknown, sizeOf, numberOf, isUnfit, hasLarge}
@@ -19,7 +18,7 @@ use Rattle.results.specs.SlotResults.{quotients, results}
 use Rattle.heads.specs.declared.Head.{Head}
 use Rattle.heads.proofs.Opening.{passed, Opens}
 use Rattle.results.proofs.Bounds.{isBeyond, none-beyond, small-by, six-by}
-use Rattle.ledger.specs.Operations.{daysRow, givenTests, pointRefusal}
+use Rattle.ledger.specs.Operations.{givenTests, pointTests, pointRefusal}
 
 -- what 10 to 17 show, where none of them is told
 pub record Given (h : Head) (points : ℕ) (kind : Kind) (value : List ℕ) (places : ℕ) : Type 0 where
@@ -48,11 +47,10 @@ module _ (h : Head) (points : ℕ) (last : List ℕ) (tag : ℕ) (value : List �
   -- and where 18 is not told either
   pub takes : (marks : List ℕ) → pointRefusal h marks points last tag value places ≡ 0 → Given h points (kindOf tag) value places
   unfolding pointRefusal
-  takes marks e = go (ℕ-discrete (firstOf (givenTests h points last tag value places)) 0)
-    where
-      go : Dec (firstOf (givenTests h points last tag value places) ≡ 0) → Given h points (kindOf tag) value places
-      go (yes z) = given z
-      go (no n) = absurd (n (sym (told (givenTests h points last tag value places) (daysRow h marks tag value) n) ∙ e))
+  takes marks e =
+      let all = pointTests h marks points last tag value places in
+      let rows = givenTests h points last tag value places in
+      given (clear-zero rows (within rows all (refl, (refl, (refl, (refl, (refl, (refl, (refl, (refl, tt)))))))) (untold all tt e)))
 
 module _ {h : Head} {points : ℕ} {kind : Kind} {value : List ℕ} {places : ℕ} (g : Given h points kind value places) (marks : List ℕ) where
   pub six-quotients : length (quotients h marks kind value) ≡ 6
