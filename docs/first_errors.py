@@ -7,7 +7,9 @@ To be run at the top of the repository.
     docs/first_errors.py --write    puts it into docs/CLAIMS.md; a row whose edit has no log keeps its first error
     docs/first_errors.py --list     compares the claims and edits of docs/CLAIMS.md with the edits that there are; each edit
                                     must also be named with a rule or a demand, above the table
-    docs/first_errors.py --check    compares all of the table with edits and logs; each first error must be a fact that fails
+    docs/first_errors.py --check    compares all of the table with edits and logs. Each first error must be a fact that fails, and
+                                    the one that the table tells; a `?` there tells none
+    docs/first_errors.py --clear    puts `?` for every first error, for a run after proofs have changed; then --write
 
 Errors that only follow from another one ('was not admitted') are passed over. A function that needs no proof file is told in
 a note. The exit status is 1 where a log is missing or something differs.
@@ -37,6 +39,7 @@ DIFFER = re.compile(
     r"differ (?:only )?where one has `([^`|]+)` \(expected\)(?:, right after `[^`]*`,?)? and the other has `([^`|]+)` \(found\)"
     r"|the two types are `([^`|]+)` \(expected\) and `([^`|]+)` \(found\)")
 NO_FACT = "no fact: "
+UNKNOWN = "?"
 
 
 def edits():
@@ -145,7 +148,7 @@ def differences(due, before, rows, with_logs):
                 yield f"no log of {edit}"
             elif NO_FACT in told:
                 yield f"{edit} is not refused by a fact: {told}"
-            elif told != rows[edit][1]:
+            elif rows[edit][1] not in (told, UNKNOWN):
                 yield f"docs/CLAIMS.md, first error: the log says {row(edit, claim, told)}"
 
 
@@ -156,12 +159,15 @@ def main(mode):
         found = list(differences(due, before, rows, mode == ["--check"]))
         print(*found, sep="\n", end="\n" if found else "", file=sys.stderr)
         return 1 if found else 0
-    if mode not in ([], ["--write"]):
+    if mode not in ([], ["--write"], ["--clear"]):
         sys.exit(__doc__)
     before, rows, behind = table()
-    told = {edit: first_error(edit) for edit, _ in due}
+    if mode == ["--clear"]:
+        told = {edit: UNKNOWN for edit, _ in due}
+    else:
+        told = {edit: first_error(edit) for edit, _ in due}
     kept = {edit: cells[1] for edit, cells in rows.items()} if mode else {}
-    lines = HEADER + [row(edit, claim, told[edit] or kept.get(edit, "?")) for edit, claim in due]
+    lines = HEADER + [row(edit, claim, told[edit] or kept.get(edit, UNKNOWN)) for edit, claim in due]
     if mode:
         CLAIMS.write_text("\n".join(before + lines + behind))
     else:

@@ -59,11 +59,8 @@ module _ (h : Head) (marks : List ℕ) where
   unfolding noRemainder
   no-loss ps figures = ap (λ wholly. leZ (pos (h .contract)) (figures .settled) || wholly && divides 3_000 (roundedTotal h marks ps)) (wholes h marks ps)
 
-kW-is : (v : ℕ) → 3_000 * (24 * v) ≡ 72_000 * v
-kW-is v = omega arith
-
-watt-is : (v : ℕ) → 3 * (24 * v) ≡ 72 * v
-watt-is v = omega arith
+parts : (v : ℕ) → (3_000 * (24 * v) ≡ 72_000 * v) × (3 * (24 * v) ≡ 72 * v)
+parts v = (omega arith, omega arith)
 
 module _ (state : State) (sum : ℤ) (ps : List Point) (a : Along state sum ps) where
   abbrev quotientsSoFar : List Quotient
@@ -97,7 +94,7 @@ module _ (state : State) (sum : ℤ) (ps : List Point) (a : Along state sum ps) 
   accurate =
       let h = state .head in
       let c = compared (partsOfWh h) (partsOfkW h) (partsOfWatt h) (length ps) (h .contract) (wh-pos h (opens h (state .marks) (a .sound .content)))
-      (kW-is (product h)) (watt-is (product h)) quotientsSoFar (a .kept) (a .sixes) in
+      (parts (product h) .0) (parts (product h) .1) quotientsSoFar (a .kept) (a .sixes) in
       record {
         counted = a .count;
         total = a .total;

@@ -119,14 +119,12 @@ exact-same kW watt n y lost e f w = record { equal = (λ q. tt, λ t. go w); oth
     go (inr z) = omega arith
 
 -- something lost
-printed-more : (kW watt n y lost e : ℕ) → e ≡ y * kW - lost → 0 < y → 0 < lost → 0 < kW → lost < kW + 2 * watt * n → Compared kW watt n y e false
-printed-more kW watt n y lost e f p l k b =
-    let m : 0 < y * kW = mul-pos p k in
-    record { equal = (λ q. absurd (omega arith), λ t. absurd t); otherwise = λ t. omega arith }
-
 more : (wh n r x y e : ℕ) → 0 < wh → r < 3_000 → x ≤ 6 * n * wh → e ≡ y * (3_000 * wh) - (r * wh + x)
     → ¬ (y ≡ 0) → ¬ ((x ≡ 0) × (r ≡ 0)) → Compared (3_000 * wh) (3 * wh) n y e false
-more wh n r x y e p l k f z w = printed-more (3_000 * wh) (3 * wh) n y (r * wh + x) e f (omega arith) (go (decLt 0 (r * wh + x))) (omega arith) (omega (arith, mul-le-mul-right wh l))
+more wh n r x y e p l k f z w =
+    let lost = go (decLt 0 (r * wh + x)) in
+    let printed : 0 < y * (3_000 * wh) = mul-pos (omega arith) (omega arith) in
+    record { equal = (λ q. absurd (omega arith), λ t. absurd t); otherwise = λ t. omega (arith, mul-le-mul-right wh l) }
   where
     go : Dec (0 < r * wh + x) → 0 < r * wh + x
     go (yes h) = h

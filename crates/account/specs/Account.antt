@@ -7,6 +7,7 @@ use Prim.Native.Nat.{ℕ, _+_, _*_, _-_, _/_}
 use lib.Dec.{ltb, eqb}
 use lib.IntN.{ℤ, pos, _+ℤ_, _-ℤ_, _*ℤ_}
 use lib.ListN.{getD, replicate}
+use Rattle.numbers.specs.PointNumbers.{numberLength, digit0}
 use Rattle.integers.specs.Integers.{orZero, sumℤ}
 use Rattle.heads.specs.Heads.{headOf, openingRefusal}
 use Rattle.points.specs.Points.{kindOf, numberOf}
@@ -49,7 +50,7 @@ exactSum h marks tag value = sumℤ (map (exactly h) (quotients h marks (kindOf 
 unfoldable pub opening : List ℕ → List ℕ → Option Account
 opening head calendar =
     cond (eqb (openingRefusal head calendar) 0)
-    (some (record { head = headOf head; marks = calendar; points = 0; last = replicate 22 48; sum = pos 0 }))
+    (some (record { head = headOf head; marks = calendar; points = 0; last = replicate numberLength digit0; sum = pos 0 }))
     none
 
 -- 'where a refusal of adding other than 9 fits what the account holds and is given, it is refused'

@@ -1,10 +1,36 @@
 -- Dates (document 01, 'Days'). A day is its count of days from 2000-01-01, a Saturday, as 0.
 use mathlib.Core.Bool.{Bool, cond, _&&_}
 use mathlib.Core.List.{List, [], _∷_}
-use Prim.Native.Nat.{ℕ, _+_, _*_, _-_, _/_, _%_}
+use Prim.Native.Nat.{ℕ, _+_, _*_, _-_, _/_, _%_, _≤_}
 use lib.Dec.{leb, ltb, eqb}
 use lib.ListN.{getD, take}
 use Rattle.numbers.specs.Lists.{sum}
+
+-- 'Dates run from 2020-01-01 to 2099-12-31', which are days 7305 and 36524
+abbrev pub firstYear : ℕ
+firstYear = 2020
+
+abbrev pub lastYear : ℕ
+lastYear = 2099
+
+abbrev pub firstDay : ℕ
+firstDay = 7305
+
+abbrev pub lastDay : ℕ
+lastDay = 36524
+
+-- 'counted in days from 2000-01-01'
+abbrev pub yearsSince : ℕ → ℕ
+yearsSince year = year - 2000
+
+-- the days of a common year
+abbrev pub commonYear : ℕ
+commonYear = 365
+
+-- one of the twelve months
+pub record IsMonth (month : ℕ) : Type 0 where
+  pub first : 1 ≤ month
+  pub last : month ≤ 12
 
 -- a leap year, from 2000 to 2099
 abbrev pub isLeap : ℕ → Bool
@@ -29,11 +55,11 @@ daysBefore year month = commonDaysBefore month + cond (isLeap year && ltb 2 mont
 -- the dates from 2020-01-01 to 2099-12-31
 unfoldable pub isDate : ℕ → ℕ → ℕ → Bool
 isDate year month day =
-    leb 2020 year && leb year 2099 && leb 1 month && leb month 12 && leb 1 day && leb day (daysIn year month)
+    leb firstYear year && leb year lastYear && leb 1 month && leb month 12 && leb 1 day && leb day (daysIn year month)
 
 -- the count of a date: whole years, of which each fourth from 2000 on is a leap year, whole months, days
 unfoldable pub dayCount : ℕ → ℕ → ℕ → ℕ
-dayCount year month day = 365 * (year - 2000) + (year - 2000 + 3) / 4 + daysBefore year month + (day - 1)
+dayCount year month day = commonYear * yearsSince year + (yearsSince year + 3) / 4 + daysBefore year month + (day - 1)
 
 -- 'The count's remainder by 7 gives the weekday: 0 Saturday, 1 Sunday.'
 abbrev pub isWeekend : ℕ → Bool

@@ -5,6 +5,7 @@ use Prim.Native.Nat.{ℕ, _-_}
 use lib.Dec.{leb, eqb}
 use lib.ListN.{getD}
 use Rattle.numbers.specs.Lists.{run, filter}
+use Rattle.numbers.specs.Slots.{daysBack}
 use Rattle.calendar.specs.Dates.{isWeekend}
 
 -- 0 none; 1 national holiday; 2 earlier dispatch by the grid operator; 3 economic dispatch excluded on application
@@ -21,4 +22,4 @@ isEligible test marks k = not (isWeekend (test - k)) && eqb (ofDay marks k) 0
 
 -- the eligible days of the thirty, nearest first
 abbrev pub eligibleDays : ℕ → List ℕ → List ℕ
-eligibleDays test marks = filter (isEligible test marks) (run (λ k. k) 1 30)
+eligibleDays test marks = filter (isEligible test marks) (run (λ k. k) 1 daysBack)

@@ -1,10 +1,14 @@
+// Dates, their counts and weekdays, marks, eligible days.
 ghost use mathlib.Core.Path.{_≡_};
 ghost use mathlib.Core.Bool.{true, not, _&&_};
 ghost use Prim.Native.Nat.{_≤_};
 ghost use lib.Dec.{eqb};
 ghost use Rattle.numbers.specs.Lists.{run, any};
-ghost use Rattle.calendar.specs.Dates.{isLeap, daysIn, commonDaysBefore, daysBefore, isDate, dayCount, isWeekend};
+ghost use Rattle.numbers.specs.Slots.{daysBack};
+ghost use Rattle.calendar.specs.Dates.{firstDay, lastDay, IsMonth, isLeap, daysIn, commonDaysBefore, daysBefore, isDate};
+ghost use Rattle.calendar.specs.Dates.{dayCount, isWeekend};
 ghost use Rattle.calendar.specs.Eligible.{isMark, isEligible};
+use numbers::DAYS_BACK;
 
 // The days before each month of a common year: the fixed table of document 01, 'Days'.
 const DAYS_BEFORE: [u32; 12] = [0, 31, 59, 90, 120, 151, 181, 212, 243, 273, 304, 334];
@@ -22,7 +26,7 @@ const EARLIER_DISPATCH: u8 = 2;
 const ECONOMIC_DISPATCH: u8 = 3;
 
 fn common_days_before(month: u8) -> u32
-    requires { ⌜ (1 ≤ month) × (month ≤ 12) ⌝ }
+    requires { ⌜ IsMonth month ⌝ }
     ensures { λ r. ⌜ r ≡ commonDaysBefore month ⌝ }
 {
     DAYS_BEFORE[(month - 1) as usize]
@@ -37,7 +41,7 @@ fn is_leap(year: u16) -> bool
 
 // The days of a month.
 fn days_in(year: u16, month: u8) -> u8
-    requires { ⌜ (1 ≤ month) × (month ≤ 12) ⌝ }
+    requires { ⌜ IsMonth month ⌝ }
     ensures { λ r. ⌜ r ≡ daysIn year month ⌝ }
 {
     match month {
@@ -62,7 +66,7 @@ pub fn is_date(year: u16, month: u8, day: u8) -> bool
 
 // The days before a month, with one day more after February in a leap year.
 fn days_before(year: u16, month: u8) -> u32
-    requires { ⌜ (1 ≤ month) × (month ≤ 12) ⌝ }
+    requires { ⌜ IsMonth month ⌝ }
     ensures { λ r. ⌜ r ≡ daysBefore year month ⌝ }
 {
     let common = common_days_before(month);
@@ -76,7 +80,7 @@ fn days_before(year: u16, month: u8) -> u32
 // The count of a date in days from 2000-01-01, a Saturday, as 0.
 pub fn day_count(year: u16, month: u8, day: u8) -> u32
     requires { ⌜ isDate year month day ≡ true ⌝ }
-    ensures { λ r. ⌜ (r ≡ dayCount year month day) × (7305 ≤ r) × (r ≤ 36524) ⌝ }
+    ensures { λ r. ⌜ (r ≡ dayCount year month day) × (firstDay ≤ r) × (r ≤ lastDay) ⌝ }
 {
     let years = (year - 2000) as u32;
     365 * years + (years + 3) / 4 + days_before(year, month) + (day - 1) as u32
@@ -121,13 +125,13 @@ fn is_eligible(count: u32, mark: u8) -> bool
 }
 
 // Which of the days 1 to 30 back are eligible; day k back stands at place k - 1.
-pub fn eligible_days(test: u32, marks: [u8; 30]) -> [bool; 30]
-    requires { ⌜ 30 ≤ test ⌝ }
-    ensures { λ r. ⌜ r ≡ run (isEligible test marks) 1 30 ⌝ }
+pub fn eligible_days(test: u32, marks: [u8; DAYS_BACK]) -> [bool; DAYS_BACK]
+    requires { ⌜ daysBack ≤ test ⌝ }
+    ensures { λ r. ⌜ r ≡ run (isEligible test marks) 1 daysBack ⌝ }
 {
-    let mut days = [false; 30];
+    let mut days = [false; DAYS_BACK];
     let mut k: usize = 0;
-    while k < 30 {
+    while k < DAYS_BACK {
         days[k] = is_eligible(test - (k + 1) as u32, marks[k]);
         k += 1;
     }

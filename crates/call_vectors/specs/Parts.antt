@@ -1,25 +1,17 @@
 -- What the bytes of a call say: the table 'A state' of docs/VECTORS.md.
-use mathlib.Core.Bool.{cond}
 use mathlib.Core.List.{List, [], _∷_}
-use Prim.Native.Nat.{ℕ, _+_, _-_, _*_}
-use lib.Dec.{ltb}
-use lib.IntN.{ℤ, pos, negsuc}
+use Prim.Native.Nat.{ℕ, _*_}
+use lib.IntN.{ℤ}
 use lib.ListN.{getD, take, drop}
 use Rattle.numbers.specs.Lists.{run}
 use Rattle.numbers.specs.Words.{word16, word32}
+use Rattle.integers.specs.Integers.{signedWord}
 use Rattle.heads.specs.declared.Head.{Head}
 use Rattle.ledger.specs.declared.State.{State}
 
--- two's complement: the number that eight bytes stand for
-abbrev pub signedOf : ℕ → ℤ
-signedOf word = cond (ltb word 9223372036854775808) (pos word) (negsuc (18446744073709551615 - word))
-
-abbrev pub signedAt : List ℕ → ℕ → ℤ
-signedAt bytes at = signedOf (word32 bytes at * 4294967296 + word32 bytes (at + 4))
-
 -- the i-th of signed numbers that follow each other
 abbrev pub signedIn : List ℕ → ℕ → ℤ
-signedIn bytes i = signedAt bytes (i * 8)
+signedIn bytes i = signedWord bytes (i * 8)
 
 unfoldable pub headIn : List ℕ → Head
 headIn bytes = record {

@@ -1,9 +1,9 @@
 // The parts of a call, from standard input.
 ghost use mathlib.Core.Path.{_≡_};
-ghost use Prim.Native.Nat.{_+_, _*_, _≤_};
+ghost use Prim.Native.Nat.{_*_, _≤_};
 ghost use lib.ListN.{length};
 ghost use Rattle.numbers.specs.Lists.{run};
-ghost use Rattle.call_vectors.specs.Parts.{signedOf, signedAt, signedIn, headIn, stateIn};
+ghost use Rattle.call_vectors.specs.Parts.{signedIn, headIn, stateIn};
 use crate::faults;
 use heads::Head;
 use ledger::State;
@@ -54,28 +54,6 @@ pub fn read_part(room: &mut [u8]) -> Part
     }
 }
 
-// Two's complement in two words, the high one first.
-fn signed_of(high: u32, low: u32) -> i64
-    ensures { λ r. ⌜ r ≡ signedOf (high * 4294967296 + low) ⌝ }
-{
-    let word = (high as u64) * 4294967296 + (low as u64);
-    if word < 9223372036854775808 {
-        word as i64
-    } else {
-        -1 - ((18446744073709551615 - word) as i64)
-    }
-}
-
-// The signed eight bytes at a place.
-fn signed_at(bytes: &[u8], at: usize) -> i64
-    requires { ⌜ at + 8 ≤ length (now bytes) ⌝ }
-    ensures { λ r. ⌜ r ≡ signedAt (now (bytes .entry)) at ⌝ }
-{
-    let high = numbers::word32_at(bytes, at);
-    let low = numbers::word32_at(bytes, at + 4);
-    signed_of(high, low)
-}
-
 // Signed numbers of eight bytes each, as many as there are places.
 pub fn signed_list(bytes: &[u8], places: &mut [i64])
     requires { ⌜ length (now places) * 8 ≤ length (now bytes) ⌝ }
@@ -83,7 +61,7 @@ pub fn signed_list(bytes: &[u8], places: &mut [i64])
 {
     let mut i: usize = 0;
     while i < places.len() {
-        places[i] = signed_at(bytes, i * 8);
+        places[i] = integers::signed_word_at(bytes, i * 8);
         i += 1;
     }
 }

@@ -129,11 +129,3 @@ pub ⊖-mag : (a b H : ℕ) → (mag (a ⊖ b) < H) ↔ ((a < b + H) × (b ≤ a
 ⊖-mag a b H = by-sign a b (λ z. (mag z < H) ↔ ((a < b + H) × (b ≤ a + H))) (λ i e. omega arith) (λ i e. omega arith)
 
 pub ruleset ⊖s = (pos-⊖, negsuc-⊖, neg-pos-⊖, ⊖-neg, ⊖-add, ⊖-mul, ⊖-≡-iff, ⊖-≤-iff, ⊖-<-iff, ⊖-orZero, ⊖-natAbs, ⊖-mag)
-
--- ---- laws, each in one line
-
-pub ≤ℤ-<ℤ-trans : (x y z : ℤ) → x ≤ℤ y → y <ℤ z → x <ℤ z
-≤ℤ-<ℤ-trans = by⊖ _ λ a a′. by⊖ _ λ b b′. by⊖ _ λ c c′. simp ⊖s (omega arith)
-
-pub ≤ℤ-antisym : (x y : ℤ) → x ≤ℤ y → y ≤ℤ x → x ≡ y
-≤ℤ-antisym = by⊖ _ λ a a′. by⊖ _ λ b b′. simp ⊖s (omega arith)

@@ -1,8 +1,8 @@
 -- `floorDiv` is the floor, over every divisor above 0. Assumes nothing.
 use mathlib.Core.Path.{_≡_, sym, ap}
 use mathlib.Core.Logic.{_↔_}
-use Prim.Native.Nat.{ℕ, suc, _+_, _*_, _-_, _%_, _<_, _≤_}
-use native.Mathlib.Nat.{div-add-mod', mod-lt, mod-eq-of-lt, mod-self, mod-one, suc-mod, lt-of-mul-lt-mul-right, div-le-self}
+use Prim.Native.Nat.{ℕ, suc, _+_, _-_, _%_, _<_, _≤_}
+use native.Mathlib.Nat.{div-add-mod', mod-lt, mod-eq-of-lt, mod-self, mod-one, suc-mod, div-le-self}
 use native.Mathlib.Decide.{decLt}
 use native.Mathlib.Omega.{arith}
 use lib.Dec.{T}
@@ -10,7 +10,7 @@ use lib.IntN.{ℤ, pos, negsuc, _+ℤ_, _*ℤ_, natAbs}
 use lib.Signed.{_≤ℤ_, _<ℤ_}
 use mir.Facts.{eqb-yes, yes-eqb}
 use Rattle.integers.specs.Integers.{floorDiv, divides}
-use Rattle.integers.proofs.Differences.{by⊖, ⊖s, ≤ℤ-antisym, ≤ℤ-<ℤ-trans}
+use Rattle.integers.proofs.Differences.{by⊖, ⊖s}
 
 -- what the division leaves
 abbrev pub rest : ℤ → ℕ → ℕ
@@ -37,15 +37,6 @@ floor-high n d p = go (floorDiv n d) n (rest n d) (rest-is n d p) (rest-< n d p)
   where
     go : (q n : ℤ) (r : ℕ) → n ≡ q *ℤ pos d +ℤ pos r → r < d → n <ℤ (q *ℤ pos d +ℤ pos d)
     go = by⊖ _ λ a a′. by⊖ _ λ b b′. simp ⊖s (omega arith)
-
-below : (d : ℕ) (q k : ℤ) → (q *ℤ pos d) <ℤ (k *ℤ pos d +ℤ pos d) → q ≤ℤ k
-below d = by⊖ _ λ a a′. by⊖ _ λ b b′. simp ⊖s λ h. let g : a + b′ < b + a′ + 1 = lt-of-mul-lt-mul-right d (omega arith) in omega arith
-
--- and no other number is
-pub floor-unique : (n : ℤ) (d : ℕ) → 0 < d → (q : ℤ) → (q *ℤ pos d) ≤ℤ n → n <ℤ (q *ℤ pos d +ℤ pos d) → q ≡ floorDiv n d
-floor-unique n d p q l h = ≤ℤ-antisym _ _
-    (below d _ _ (≤ℤ-<ℤ-trans _ _ _ l (floor-high n d p)))
-    (below d _ _ (≤ℤ-<ℤ-trans _ _ _ (floor-low n d p) h))
 
 pub natAbs-floor : (n : ℤ) (d : ℕ) → natAbs (floorDiv n d) ≤ natAbs n
 natAbs-floor (pos n) d = div-le-self n d

@@ -1,9 +1,10 @@
 -- Whole numbers with a sign.
-use mathlib.Core.Bool.{Bool}
+use mathlib.Core.Bool.{Bool, cond}
 use mathlib.Core.List.{List, [], _∷_}
 use Prim.Native.Nat.{ℕ, _-_, _/_, _%_, _^_}
-use lib.Dec.{eqb}
+use lib.Dec.{ltb, eqb}
 use lib.IntN.{ℤ, pos, negsuc, natAbs, _+ℤ_}
+use Rattle.numbers.specs.Words.{word64}
 
 -- z ÷ d, rounded toward minus infinity. `negsuc n` is −(n + 1).
 abbrev pub floorDiv : ℤ → ℕ → ℤ
@@ -24,7 +25,23 @@ unfoldable pub sumℤ : List ℤ → ℤ
 sumℤ [] = pos 0
 sumℤ (z ∷ zs) = z +ℤ sumℤ zs
 
+-- the size of each of six numbers whose sum fits a word of eight bytes
+abbrev pub mostSummand : ℕ
+mostSummand = 1_000_000_000_000_000
+
+-- the highest word of eight bytes
+abbrev pub mostWord : ℕ
+mostWord = 256 ^ 8 - 1
+
 -- two's complement at eight bytes
 abbrev pub twosComplement : ℤ → ℕ
 twosComplement (pos n) = n
-twosComplement (negsuc n) = 256 ^ 8 - 1 - n
+twosComplement (negsuc n) = mostWord - n
+
+-- the number that such a word stands for
+abbrev pub signedOf : ℕ → ℤ
+signedOf word = cond (ltb word (2 ^ 63)) (pos word) (negsuc (mostWord - word))
+
+-- the number with a sign in the eight bytes at a place
+abbrev pub signedWord : List ℕ → ℕ → ℤ
+signedWord bytes at = signedOf (word64 bytes at)

@@ -1,11 +1,11 @@
 -- Adding in steps: the early refusals, then the days. Assumes nothing.
-use mathlib.Core.Path.{_≡_, refl, sym}
-use mathlib.Core.Bool.{Bool, true, false, true≢false}
+use mathlib.Core.Path.{_≡_, refl}
+use mathlib.Core.Bool.{Bool, true, false, cond, not}
 use mathlib.Core.List.{List}
 use Prim.Native.Nat.{ℕ, _+_, _<_, _≤_}
 use native.Mathlib.Omega.{arith}
 use lib.IntN.{ℤ, pos, natAbs}
-use lib.ListN.{length, getD}
+use lib.ListN.{length, getD, replicate}
 use borrow.Author.Tests.{eq-eqb, ne-eqb}
 use Rattle.numbers.specs.Refusals.{firstOf}
 use Rattle.numbers.proofs.Refusals.{untold, told, passed}
@@ -16,6 +16,7 @@ use Rattle.ledger.specs.Operations.{daysRow, addingRefusal, earlyTests, 
 use Rattle.heads.specs.declared.Head.{Head}
 use Rattle.ledger.specs.declared.State.{State}
 use Rattle.results.specs.Steps.{foundOf}
+use Rattle.results.specs.declared.Found.{Found}
 use Rattle.heads.proofs.Opening.{opens}
 use Rattle.points.proofs.Forms.{known-length}
 use Rattle.ledger.proofs.Taking.{Given, given, result-small}
@@ -24,21 +25,18 @@ use Rattle.ledger.proofs.Sound.{Sound, sound, sound-is, total-small}
 -- ---- the days
 
 module _ (h : Head) (marks : List ℕ) (kind : Kind) (value : List ℕ) where
-  pub found-few : foundOf h marks kind value .enough ≡ false → lacksDays h marks kind value ≡ true
+  pub enough-is : foundOf h marks kind value .enough ≡ not (lacksDays h marks kind value)
   unfolding foundOf
-  found-few e = go (lacksDays h marks kind value) refl
+  enough-is = go (lacksDays h marks kind value) (results h marks kind value)
     where
-      go : (b : Bool) → lacksDays h marks kind value ≡ b → lacksDays h marks kind value ≡ true
-      go true q = q
-      go false q = absurd (true≢false (simp q at e))
+      go : (few : Bool) (found : List ℤ)
+          → cond {A = Found} few (record { enough = false; found = replicate 6 (pos 0) }) (record { enough = true; found = found }) .enough ≡ not few
+      go true found = refl
+      go false found = refl
 
-  pub found-all : foundOf h marks kind value .enough ≡ true → (lacksDays h marks kind value ≡ false) × (foundOf h marks kind value .found ≡ results h marks kind value)
+  pub found-is : lacksDays h marks kind value ≡ false → foundOf h marks kind value .found ≡ results h marks kind value
   unfolding foundOf
-  found-all e = go (lacksDays h marks kind value) refl
-    where
-      go : (b : Bool) → lacksDays h marks kind value ≡ b → (lacksDays h marks kind value ≡ false) × (foundOf h marks kind value .found ≡ results h marks kind value)
-      go true q = absurd (true≢false (sym (simp q at e)))
-      go false q = (q, simp q)
+  found-is e = simp e
 
 -- ---- the rows
 

@@ -1,5 +1,5 @@
 -- What a point that is taken changes in a state: slot by slot, its results are added. Assumes nothing.
-use mathlib.Core.Path.{_≡_, refl, sym, _∙_}
+use mathlib.Core.Path.{_≡_, refl, sym, _∙_, ap}
 use mathlib.Core.List.{List, [], _∷_}
 use Prim.Native.Nat.{ℕ, _+_, _<_, _≤_}
 use native.Mathlib.Omega.{arith}
@@ -52,8 +52,9 @@ moved-one state after p points six found m = record {
   six = m .six;
   totals = λ j h.
       let r = resultsOf state (p .tag) (p .value) in
-      m .totals j h ∙ rw (plus-at (slotTotals state) r j (omega arith) (omega arith))
-      (+ℤ-assoc (getD (slotTotals state) j (pos 0)) (getD r j (pos 0)) (slotTotal (state .head) (state .marks) points j));
+      let others = slotTotal (state .head) (state .marks) points j in
+      m .totals j h ∙ ap (_+ℤ others) (plus-at (slotTotals state) r j (omega arith) (omega arith))
+      ∙ +ℤ-assoc (getD (slotTotals state) j (pos 0)) (getD r j (pos 0)) others;
 }
 
 pub taken-six : (state : State) (tag : ℕ) (value number : List ℕ) → length (slotTotals state) ≡ 6 → length (resultsOf state tag value) ≡ 6

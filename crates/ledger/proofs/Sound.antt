@@ -21,7 +21,6 @@ use Rattle.points.specs.Points.{kindOf, numberOf}
 use Rattle.ledger.specs.States.{opened, noState, slotTotals, isUnsound, taken}
 use Rattle.figures.specs.Figures.{figuresOf, noFigures}
 use Rattle.ledger.specs.Operations.{openOf, pointTests, pointRefusal, addingTests, addingRefusal, resultsOf, addOf, closingRefusal, closeOf}
-use Rattle.heads.specs.declared.Head.{Head}
 use Rattle.ledger.specs.declared.State.{State}
 use Rattle.ledger.specs.declared.Opened.{Opened}
 use Rattle.ledger.specs.declared.Added.{Added}
@@ -32,7 +31,7 @@ use Rattle.heads.proofs.Opening.{opening-content, opens}
 use Rattle.results.proofs.Bounds.{isBeyond, none-beyond}
 use Rattle.ledger.proofs.Moving.{plus-small}
 use Rattle.ledger.proofs.Taking.{Given, takes, results-small}
-use Rattle.ledger.specs.Calls.{Call, adding, closing, Reply, refused, accepted, closed, replyOf, replies, program}
+use Rattle.ledger.specs.Calls.{Call, adding, closing, Reply, refused, accepted, closed, replyOf, replies, program, tellsNine, NeverNine}
 
 -- ---- the answers of the operations, by the refusal
 
@@ -189,11 +188,6 @@ nothing-closed = rw nothing-unsound
 
 -- ---- 9 never comes after an accepted opening
 
-abbrev pub tellsNine : Reply → Bool
-tellsNine (refused refusal) = eqb refusal 9
-tellsNine accepted = false
-tellsNine (closed figures) = false
-
 never-told : (n : ℕ) (table : List (Bool × ℕ)) → 0 < n → T (noneOf (λ row. eqb (row .1) n) table) → T (not (eqb (firstOf table) n))
 never-told n [] h t = no-eqb (λ (e : 0 ≡ n). omega arith)
 never-told n (row ∷ table) h t = go (row .0) (none-cons (λ row. eqb (row .1) n) row table .0 t) (never-told n table h)
@@ -203,21 +197,15 @@ never-told n (row ∷ table) h t = go (row .0) (none-cons (λ row. eqb (row .1) 
     go true p f = p .0
     go false p f = f (p .1)
 
-point-not-nine : (h : Head) (marks : List ℕ) (points : ℕ) (last : List ℕ) (tag : ℕ) (value : List ℕ) (places : ℕ)
-    → T (not (eqb (pointRefusal h marks points last tag value places) 9))
-unfolding pointRefusal any
-point-not-nine h marks points last tag value places = never-told 9 (pointTests h marks points last tag value places) (omega arith) tt
-
 module _ (state : State) (s : Sound state) where
   add-not-nine : (tag : ℕ) (value : List ℕ) (places : ℕ) → T (not (eqb (addOf state tag value places .refusal) 9))
-  add-not-nine tag value places = rw (add-refusal, adding-sound state s tag value places) (point-not-nine _ _ _ _ tag value places)
+  unfolding pointRefusal any
+  add-not-nine tag value places = rw (add-refusal, adding-sound state s tag value places)
+      (never-told 9 (pointTests (state .head) (state .marks) (state .points) (state .last) tag value places) (omega arith) tt)
 
   close-not-nine : T (not (eqb (closeOf state .refusal) 9))
-  close-not-nine = rw (close-refusal, closing-sound state s) (go (ltb (state .points) (state .head .count)))
-    where
-      go : (b : Bool) → T (not (eqb (cond b 20 0) 9))
-      go true = tt
-      go false = tt
+  unfolding any
+  close-not-nine = rw (close-refusal, closing-sound state s) (never-told 9 ((ltb (state .points) (state .head .count), 20) ∷ []) (omega arith) tt)
 
 reply-not-nine : (n : ℕ) (reply : Reply) → T (not (tellsNine reply)) → T (not (eqb n 9)) → T (not (tellsNine (replyOf n reply)))
 reply-not-nine n reply p q = go (eqb n 0)
@@ -238,7 +226,9 @@ replies-not-nine (closing ∷ calls) state s =
     none-cons tellsNine (replyOf (closeOf state .refusal) reply) (replies state calls) .1
     (reply-not-nine (closeOf state .refusal) reply tt (close-not-nine state s), replies-not-nine calls state s)
 
-pub never-nine : (head calendar : List ℕ) → openingRefusal head calendar ≡ 0 → (calls : List Call) → T (noneOf tellsNine (program head calendar calls))
+pub never-nine : NeverNine
 unfolding program
-never-nine head calendar e calls = rw (open-good head calendar e)
-    (none-cons tellsNine accepted (replies (opened (headOf head) calendar) calls) .1 (tt, replies-not-nine calls _ (opened-sound head calendar e)))
+never-nine head calendar e calls =
+    let z = sym (open-refusal head calendar) ∙ e in
+    rw (open-good head calendar z)
+    (none-cons tellsNine accepted (replies (opened (headOf head) calendar) calls) .1 (tt, replies-not-nine calls _ (opened-sound head calendar z)))

@@ -1,8 +1,10 @@
 -- A sequence of calls on one test, and what the program answers to each (document 01, 'Closing figures').
-use mathlib.Core.Bool.{cond}
+use mathlib.Core.Path.{_≡_}
+use mathlib.Core.Bool.{Bool, false, cond, not}
 use mathlib.Core.List.{List, [], _∷_, _++_}
 use Prim.Native.Nat.{ℕ}
-use lib.Dec.{eqb}
+use lib.Dec.{T, eqb}
+use Rattle.numbers.specs.Lists.{any}
 use Rattle.points.specs.Points.{Point}
 use Rattle.ledger.specs.Operations.{openOf, addOf, closeOf}
 use Rattle.ledger.specs.declared.State.{State}
@@ -51,3 +53,13 @@ unfoldable pub pointsTaken : List Call → List Reply → List Point
 pointsTaken [] replies = []
 pointsTaken (call ∷ calls) [] = []
 pointsTaken (call ∷ calls) (reply ∷ replies) = pointOf call reply ++ pointsTaken calls replies
+
+abbrev pub tellsNine : Reply → Bool
+tellsNine (refused refusal) = eqb refusal 9
+tellsNine accepted = false
+tellsNine (closed figures) = false
+
+-- NEVER NINE: after an accepted opening every call gets a state that 9 does not refuse
+abbrev pub NeverNine : Type 0
+NeverNine = (head calendar : List ℕ) → openOf head calendar .refusal ≡ 0
+    → (calls : List Call) → T (not (any tellsNine (program head calendar calls)))

@@ -6,7 +6,8 @@ use lib.Dec.{ltb, eqb}
 use lib.IntN.{ℤ, pos, natAbs}
 use lib.ListN.{replicate}
 use Rattle.numbers.specs.Lists.{any}
-use Rattle.numbers.specs.PointNumbers.{isNumber}
+use Rattle.numbers.specs.Slots.{daysBack, windowSlots}
+use Rattle.numbers.specs.PointNumbers.{numberLength, digit0, isNumber}
 use Rattle.heads.specs.Limits.{mostResult}
 use Rattle.heads.specs.Heads.{contentRefusal}
 use Rattle.figures.specs.SlotTotals.{plus}
@@ -15,14 +16,20 @@ use Rattle.ledger.specs.declared.State.{State}
 
 -- 'a state with no points, totals 0 and twenty-two digits 0 as last number'
 abbrev pub opened : Head → List ℕ → State
-opened h marks = record { head = h; marks = marks; points = 0; totals = replicate 6 (pos 0); last = replicate 22 48 }
+opened h marks = record { head = h; marks = marks; points = 0; totals = replicate windowSlots (pos 0); last = replicate numberLength digit0 }
 
 -- the state of zeros
 abbrev pub noHead : Head
 noHead = record { year = 0; month = 0; day = 0; slot = 0; losses = replicate 3 0; contract = 0; count = 0 }
 
 abbrev pub noState : State
-noState = record { head = noHead; marks = replicate 30 0; points = 0; totals = replicate 6 (pos 0); last = replicate 22 0 }
+noState = record {
+  head = noHead;
+  marks = replicate daysBack 0;
+  points = 0;
+  totals = replicate windowSlots (pos 0);
+  last = replicate numberLength 0;
+}
 
 -- THE SLOT TOTALS of a state: six, in Wh. Whoever reads them reads them here.
 abbrev pub slotTotals : State → List ℤ

@@ -5,6 +5,8 @@ use Prim.Native.Nat.{ℕ}
 use lib.IntN.{ℤ, pos}
 use lib.ListN.{length, getD, replicate}
 use Rattle.numbers.specs.Lists.{run}
+use Rattle.numbers.specs.Slots.{windowSlots}
+use Rattle.numbers.specs.PointNumbers.{numberLength, digit0}
 use Rattle.integers.specs.Integers.{sumℤ}
 use Rattle.heads.specs.Heads.{headOf}
 use Rattle.points.specs.Points.{Point, kindOf, numberOf}
@@ -33,8 +35,8 @@ pub record Holds (head : Head) (calendar : List ℕ) (points : List Point) (stat
   pub sameHead : state .head ≡ head
   pub sameCalendar : state .marks ≡ calendar
   pub counted : state .points ≡ length points
-  pub last : state .last ≡ lastNumber (replicate 22 48) points
-  pub totals : slotTotals state ≡ run (slotTotal head calendar points) 0 6
+  pub last : state .last ≡ lastNumber (replicate numberLength digit0) points
+  pub totals : slotTotals state ≡ run (slotTotal head calendar points) 0 windowSlots
 
 -- after an opening and calls, refused ones among them
 pub record FromReadings (head calendar : List ℕ) (calls : List Call) : Type 0 where

@@ -1,3 +1,4 @@
+// The settlement state, and opening, adding and closing, which take it and give it.
 ghost use mathlib.Core.Path.{_≡_};
 ghost use lib.ListN.{length};
 ghost use Rattle.ledger.specs.Operations.{openOf, addOf, placesOf, closeOf};
@@ -87,7 +88,8 @@ pub fn close(state: State) -> Closed
 
 // Adding: a point's six results go to the lent places and into the slot totals.
 pub fn add(state: State, tag: u8, value: &[u8], places: &mut [i64]) -> Added
-    ensures { λ r. ⌜ (r ≡ addOf state tag (now (value .entry)) (length (now (places .entry)))) × (now (places .exit) ≡ placesOf state tag (now (value .entry)) (now (places .entry))) ⌝ }
+    ensures { λ r. ⌜ r ≡ addOf state tag (now (value .entry)) (length (now (places .entry))) ⌝ }
+    ensures { λ r. ⌜ now (places .exit) ≡ placesOf state tag (now (value .entry)) (now (places .entry)) ⌝ }
 {
     let refusal = adding::early_refusal(state, tag, value, places.len());
     if refusal != refusals::ACCEPTED {

@@ -12,24 +12,25 @@ use mir.Val.{SFits, toZ, ofZ}
 use mir.Facts.{toZ-ofZ}
 use borrow.Author.Tests.{lt-ltb, le-ltb}
 use Rattle.io.specs.Digits.{digits, glyph, Fewest}
+use Rattle.numbers.specs.PointNumbers.{digit0}
 use Rattle.integers.proofs.Machine.{is-negative, is-positive}
 use Rattle.lines.specs.Ascii.{ascii}
 use Rattle.lines.specs.Numerals.{digitsOf, decimal, twoDigits, signed}
 
-last-digit : (n : ℕ) → glyph (n % 10) ≡ 48 + n % 10
+last-digit : (n : ℕ) → glyph (n % 10) ≡ digit0 + n % 10
 last-digit n = rw (lt-ltb (n % 10) 10 (mod-lt n (zero-lt-suc 9))) refl
 
 -- one digit
 one : (most n : ℕ) → n < 10 → digits 10 1 n ≡ digitsOf (suc most) n
 unfolding digitsOf
-one most n h = ap (λ (d : ℕ). d ∷ []) (last-digit n ∙ ap (λ (d : ℕ). 48 + d) (mod-eq-of-lt h)) ∙ sym (ap (λ b. cond b ((48 + n) ∷ []) (digitsOf most (n / 10) ++ (48 + n % 10) ∷ [])) (lt-ltb n 10 h))
+one most n h = ap (λ (d : ℕ). d ∷ []) (last-digit n ∙ ap (λ (d : ℕ). digit0 + d) (mod-eq-of-lt h)) ∙ sym (ap (λ b. cond b ((digit0 + n) ∷ []) (digitsOf most (n / 10) ++ (digit0 + n % 10) ∷ [])) (lt-ltb n 10 h))
 
 -- one digit more
 more : (most k n : ℕ) → 10 ≤ n → digits 10 k (n / 10) ≡ digitsOf most (n / 10) → digits 10 (suc k) n ≡ digitsOf (suc most) n
 unfolding digitsOf
 more most k n h e =
     ap₂ (λ (ds : List ℕ) (d : ℕ). ds ++ d ∷ []) e (last-digit n)
-    ∙ sym (ap (λ b. cond b ((48 + n) ∷ []) (digitsOf most (n / 10) ++ (48 + n % 10) ∷ [])) (le-ltb n 10 h))
+    ∙ sym (ap (λ b. cond b ((digit0 + n) ∷ []) (digitsOf most (n / 10) ++ (digit0 + n % 10) ∷ [])) (le-ltb n 10 h))
 
 -- a number of k + 2 digits, and what is left of it without the last one
 module _ (k n : ℕ) (f : Fewest 10 1 n (suc (suc k))) where

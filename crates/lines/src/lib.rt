@@ -2,8 +2,11 @@
 ghost use Prim.Native.Nat.{_+_, _≤_};
 ghost use lib.ListN.{length};
 ghost use Rattle.numbers.specs.Placing.{Placed};
-ghost use Rattle.lines.specs.Numerals.{decimal, twoDigits, signed};
+ghost use Rattle.lines.specs.Numerals.{mostDigits, decimal, twoDigits, signed};
 ghost use Rattle.lines.specs.Line.{lineOf};
+
+// A number of 64 bits has at most twenty digits.
+const MOST_DIGITS: usize = 20;
 
 pub fn put(text: &[u8], at: usize, out: &mut [u8]) -> usize
     requires { ⌜ at + length (now text) ≤ length (now out) ⌝ }
@@ -19,20 +22,20 @@ pub fn put(text: &[u8], at: usize, out: &mut [u8]) -> usize
 }
 
 pub fn put_number(number: u64, at: usize, out: &mut [u8]) -> usize
-    requires { ⌜ at + 20 ≤ length (now out) ⌝ }
+    requires { ⌜ at + mostDigits ≤ length (now out) ⌝ }
     ensures { λ r. ⌜ Placed (decimal number) at (now (out .entry)) r (now (out .exit)) ⌝ }
-    ensures { λ r. ⌜ r ≤ at + 20 ⌝ }
+    ensures { λ r. ⌜ r ≤ at + mostDigits ⌝ }
 {
-    let mut digits = [0u8; 20];
+    let mut digits = [0u8; MOST_DIGITS];
     let size = io::decimal(number, &mut digits);
     put(&digits[..size], at, out)
 }
 
 // A month or a day: always two digits.
 pub fn put_two_digits(number: u8, at: usize, out: &mut [u8]) -> usize
-    requires { ⌜ at + 21 ≤ length (now out) ⌝ }
+    requires { ⌜ at + (1 + mostDigits) ≤ length (now out) ⌝ }
     ensures { λ r. ⌜ Placed (twoDigits number) at (now (out .entry)) r (now (out .exit)) ⌝ }
-    ensures { λ r. ⌜ r ≤ at + 21 ⌝ }
+    ensures { λ r. ⌜ r ≤ at + (1 + mostDigits) ⌝ }
 {
     if number < 10 {
         let zero = put(b"0", at, out);
@@ -42,9 +45,9 @@ pub fn put_two_digits(number: u8, at: usize, out: &mut [u8]) -> usize
 }
 
 pub fn put_signed(number: i64, at: usize, out: &mut [u8]) -> usize
-    requires { ⌜ at + 21 ≤ length (now out) ⌝ }
+    requires { ⌜ at + (1 + mostDigits) ≤ length (now out) ⌝ }
     ensures { λ r. ⌜ Placed (signed number) at (now (out .entry)) r (now (out .exit)) ⌝ }
-    ensures { λ r. ⌜ r ≤ at + 21 ⌝ }
+    ensures { λ r. ⌜ r ≤ at + (1 + mostDigits) ⌝ }
 {
     let size = integers::size_of(number);
     if number < 0 {
@@ -56,9 +59,9 @@ pub fn put_signed(number: i64, at: usize, out: &mut [u8]) -> usize
 
 // A name, a number, the line's end.
 pub fn put_line(name: &[u8], number: u64, at: usize, out: &mut [u8]) -> usize
-    requires { ⌜ at + (length (now name) + 21) ≤ length (now out) ⌝ }
+    requires { ⌜ at + (length (now name) + (mostDigits + 1)) ≤ length (now out) ⌝ }
     ensures { λ r. ⌜ Placed (lineOf (now (name .entry)) (decimal number)) at (now (out .entry)) r (now (out .exit)) ⌝ }
-    ensures { λ r. ⌜ r ≤ at + (length (now (name .entry)) + 21) ⌝ }
+    ensures { λ r. ⌜ r ≤ at + (length (now (name .entry)) + (mostDigits + 1)) ⌝ }
 {
     let named = put(name, at, out);
     let told = put_number(number, named, out);
@@ -66,9 +69,9 @@ pub fn put_line(name: &[u8], number: u64, at: usize, out: &mut [u8]) -> usize
 }
 
 pub fn put_signed_line(name: &[u8], number: i64, at: usize, out: &mut [u8]) -> usize
-    requires { ⌜ at + (length (now name) + 22) ≤ length (now out) ⌝ }
+    requires { ⌜ at + (length (now name) + (1 + mostDigits + 1)) ≤ length (now out) ⌝ }
     ensures { λ r. ⌜ Placed (lineOf (now (name .entry)) (signed number)) at (now (out .entry)) r (now (out .exit)) ⌝ }
-    ensures { λ r. ⌜ r ≤ at + (length (now (name .entry)) + 22) ⌝ }
+    ensures { λ r. ⌜ r ≤ at + (length (now (name .entry)) + (1 + mostDigits + 1)) ⌝ }
 {
     let named = put(name, at, out);
     let signed = put_signed(number, named, out);

@@ -5,38 +5,47 @@ use Prim.Native.Nat.{ℕ, zero, suc, _+_, _*_, _-_, _<_, _≤_}
 use native.Mathlib.Omega.{arith}
 use lib.ListN.{length, getD}
 use Rattle.numbers.specs.Lists.{sum}
-use Rattle.readings.specs.Readings.{mostReading, firstLarge, reading, windowSum, windowSums, slotSums, daySums, earlierUse, Back}
+use Rattle.numbers.specs.Slots.{slotsOfDay, daysBack, windowSlots}
+use Rattle.readings.specs.Readings.{mostReading, readingCount, firstLarge, reading, windowSum, windowSums, lastWindow, earlierSlot}
+use Rattle.readings.specs.Readings.{slotSum, slotSums, daySums, earlierUse, Back}
 use Rattle.readings.proofs.Sums.{run-within, sum-within, days-within}
 use Rattle.readings.proofs.Large.{none-large}
 
-module _ (readings : List ℕ) (fits : firstLarge readings 1488 ≡ 1488) where
-  pub reading-bound : (k i : ℕ) → k ≤ 30 → i < 48 → reading readings k i ≤ mostReading
-  reading-bound k i h l = none-large readings 1488 (48 * k + i) fits (omega arith)
+-- what a window's six readings, and one slot over four days, come to at most
+abbrev pub mostWindowSum : ℕ
+mostWindowSum = windowSlots * mostReading
 
-  window-bound : (s k : ℕ) → s ≤ 42 → k ≤ 30 → windowSum readings s k ≤ 6_000_000_000
-  window-bound s k h l = sum-within (reading readings k) mostReading s 6 (λ j m. reading-bound k (s + j) l (omega arith))
+abbrev pub mostSlotSum : ℕ
+mostSlotSum = 4 * mostReading
 
-  pub window-sums-bound : (s : ℕ) → s ≤ 42 → (k : ℕ) → getD (windowSums readings s) k 0 ≤ 6_000_000_000
+module _ (readings : List ℕ) (fits : firstLarge readings readingCount ≡ readingCount) where
+  pub reading-bound : (k i : ℕ) → k ≤ daysBack → i < slotsOfDay → reading readings k i ≤ mostReading
+  reading-bound k i h l = none-large readings readingCount (slotsOfDay * k + i) fits (omega arith)
+
+  window-bound : (s k : ℕ) → s ≤ lastWindow → k ≤ daysBack → windowSum readings s k ≤ mostWindowSum
+  window-bound s k h l = sum-within (reading readings k) mostReading s windowSlots (λ j m. reading-bound k (s + j) l (omega arith))
+
+  pub window-sums-bound : (s : ℕ) → s ≤ lastWindow → (k : ℕ) → getD (windowSums readings s) k 0 ≤ mostWindowSum
   unfolding windowSums
-  window-sums-bound s h = run-within (windowSum readings s) 6_000_000_000 1 30 (λ j m. window-bound s (1 + j) h (omega arith))
+  window-sums-bound s h = run-within (windowSum readings s) mostWindowSum 1 daysBack (λ j m. window-bound s (1 + j) h (omega arith))
 
-  pub earlier-use-bound : (s : ℕ) → s ≤ 42 → earlierUse readings s ≤ 6_000_000_000
+  pub earlier-use-bound : (s : ℕ) → s ≤ lastWindow → earlierUse readings s ≤ mostWindowSum
   unfolding earlierUse
-  earlier-use-bound s h = window-bound (s - 10) 0 (omega arith) (omega arith)
+  earlier-use-bound s h = window-bound (earlierSlot s) 0 (omega arith) (omega arith)
 
   -- over at most four days
   module _ (days : List ℕ) (few : length days ≤ 4) (back : Back days) where
-    slot-sum-bound : (slot : ℕ) → slot < 48 → sum (map (λ k. reading readings k slot) days) ≤ 4_000_000_000
+    slot-sum-bound : (slot : ℕ) → slot < slotsOfDay → slotSum readings days slot ≤ mostSlotSum
     slot-sum-bound slot h =
         omega (arith, days-within (λ k. reading readings k slot) mostReading days (λ i l. reading-bound (getD days i 0) slot (back i) h))
 
-    slot-sums-bound : (i : ℕ) → i ≤ 42 → (k : ℕ) → getD (slotSums readings days i) k 0 ≤ 4_000_000_000
+    slot-sums-bound : (i : ℕ) → i ≤ lastWindow → (k : ℕ) → getD (slotSums readings days i) k 0 ≤ mostSlotSum
     unfolding slotSums
     slot-sums-bound i h =
-        run-within (λ slot. sum (map (λ k. reading readings k slot) days)) 4_000_000_000 i 6 (λ j l. slot-sum-bound (i + j) (omega arith))
+        run-within (slotSum readings days) mostSlotSum i windowSlots (λ j l. slot-sum-bound (i + j) (omega arith))
 
-    pub day-sums-bound : (s : ℕ) → s ≤ 42 → (i k : ℕ) → getD (getD (daySums readings days s) i []) k 0 ≤ 4_000_000_000
+    pub day-sums-bound : (s : ℕ) → s ≤ lastWindow → (i k : ℕ) → getD (getD (daySums readings days s) i []) k 0 ≤ mostSlotSum
     unfolding daySums
     day-sums-bound s h zero k = slot-sums-bound s h k
-    day-sums-bound s h (suc zero) k = slot-sums-bound (s - 10) (omega arith) k
+    day-sums-bound s h (suc zero) k = slot-sums-bound (earlierSlot s) (omega arith) k
     day-sums-bound s h (suc (suc i)) k = omega arith

@@ -10,14 +10,14 @@ use lib.ListN.{drop}
 use lib.Seq.{drop-drop, getD-drop}
 use borrow.Author.Tests.{lt-ltb, le-ltb, ltb-true, ltb-false}
 use Rattle.numbers.specs.Words.{word32}
-use Rattle.readings.specs.Readings.{mostReading, firstLarge}
+use Rattle.readings.specs.Readings.{mostReading, readingLength, firstLarge}
 
 pub first-bound : (readings : List ℕ) (n : ℕ) → firstLarge readings n ≤ n
 unfolding firstLarge
 first-bound readings zero = omega arith
-first-bound readings (suc n) = go (ltb mostReading (word32 readings 0)) (first-bound (drop 4 readings) n)
+first-bound readings (suc n) = go (ltb mostReading (word32 readings 0)) (first-bound (drop readingLength readings) n)
   where
-    go : (t : Bool) → firstLarge (drop 4 readings) n ≤ n → cond t 0 (suc (firstLarge (drop 4 readings) n)) ≤ suc n
+    go : (t : Bool) → firstLarge (drop readingLength readings) n ≤ n → cond t 0 (suc (firstLarge (drop readingLength readings) n)) ≤ suc n
     go true h = omega arith
     go false h = omega arith
 
@@ -31,22 +31,22 @@ module _ (readings : List ℕ) where
 
   -- the n readings from reading i on
   abbrev pub from : ℕ → ℕ → ℕ
-  from i n = firstLarge (drop (i * 4) readings) n
+  from i n = firstLarge (drop (i * readingLength) readings) n
 
-  pub stop : (i n : ℕ) → mostReading < word32 readings (i * 4) → from i (suc n) ≡ 0
+  pub stop : (i n : ℕ) → mostReading < word32 readings (i * readingLength) → from i (suc n) ≡ 0
   unfolding firstLarge
-  stop i n h = rw (word-from (i * 4), lt-ltb _ _ h)
+  stop i n h = rw (word-from (i * readingLength), lt-ltb _ _ h)
 
-  pub pass : (i n : ℕ) → word32 readings (i * 4) ≤ mostReading → from i (suc n) ≡ suc (from (i + 1) n)
+  pub pass : (i n : ℕ) → word32 readings (i * readingLength) ≤ mostReading → from i (suc n) ≡ suc (from (i + 1) n)
   unfolding firstLarge
   pass i n h =
-      let e : i * 4 + 4 ≡ (i + 1) * 4 = omega arith in
-      rw (word-from (i * 4), le-ltb _ _ h, drop-drop 4 (i * 4) readings, e)
+      let e : i * readingLength + readingLength ≡ (i + 1) * readingLength = omega arith in
+      rw (word-from (i * readingLength), le-ltb _ _ h, drop-drop readingLength (i * readingLength) readings, e)
 
-  fits : (i n : ℕ) → from i (suc n) ≡ suc n → (word32 readings (i * 4) ≤ mostReading) × (from (i + 1) n ≡ n)
-  fits i n e = go (ltb mostReading (word32 readings (i * 4))) refl
+  fits : (i n : ℕ) → from i (suc n) ≡ suc n → (word32 readings (i * readingLength) ≤ mostReading) × (from (i + 1) n ≡ n)
+  fits i n e = go (ltb mostReading (word32 readings (i * readingLength))) refl
     where
-      go : (t : Bool) → ltb mostReading (word32 readings (i * 4)) ≡ t → (word32 readings (i * 4) ≤ mostReading) × (from (i + 1) n ≡ n)
+      go : (t : Bool) → ltb mostReading (word32 readings (i * readingLength)) ≡ t → (word32 readings (i * readingLength) ≤ mostReading) × (from (i + 1) n ≡ n)
       go true p = absurd (omega (arith, stop i n (ltb-true _ _ p)))
       go false p = let h = ltb-false _ _ p in (h, omega (arith, pass i n h))
 
@@ -65,9 +65,9 @@ module _ (readings : List ℕ) where
   -- one that is found among the first k
   found-within : (k i n : ℕ) → from i k < k → from i (k + n) ≡ from i k
   found-within zero i n h = absurd (omega arith)
-  found-within (suc k) i n h = go (ltb mostReading (word32 readings (i * 4))) refl (found-within k (i + 1) n)
+  found-within (suc k) i n h = go (ltb mostReading (word32 readings (i * readingLength))) refl (found-within k (i + 1) n)
     where
-      go : (t : Bool) → ltb mostReading (word32 readings (i * 4)) ≡ t → (from (i + 1) k < k → from (i + 1) (k + n) ≡ from (i + 1) k)
+      go : (t : Bool) → ltb mostReading (word32 readings (i * readingLength)) ≡ t → (from (i + 1) k < k → from (i + 1) (k + n) ≡ from (i + 1) k)
           → from i (suc k + n) ≡ from i (suc k)
       go true p r = let l = ltb-true _ _ p in rw suc-add (stop i (k + n) l ∙ sym (stop i k l))
       go false p r =
@@ -81,14 +81,14 @@ module _ (readings : List ℕ) where
         let m : n - i ≡ k + (n - (i + k)) = omega arith in
         rw (m, pass-all k i (n - (i + k)) e) (omega arith)
 
-    pub left-stop : i < n → mostReading < word32 readings (i * 4) → i + from i (n - i) ≡ i
+    pub left-stop : i < n → mostReading < word32 readings (i * readingLength) → i + from i (n - i) ≡ i
     left-stop h l = let m : n - i ≡ suc (n - i - 1) = omega arith in rw (m, stop i (n - i - 1) l) (add-zero i)
 
     -- a loop's turn that looks at k readings one by one
     pub left-none-in : (k found : ℕ) → found ≡ i + from i (i + k - i) → i + k ≤ found → from i k ≡ k
     left-none-in k found e h =
         let m : i + k - i ≡ k = omega arith in
-        none-found (drop (i * 4) readings) k (omega (arith, rw m at e))
+        none-found (drop (i * readingLength) readings) k (omega (arith, rw m at e))
 
     pub left-found-in : (k found : ℕ) → found ≡ i + from i (i + k - i) → found < i + k → i + k ≤ n → i + from i (n - i) ≡ found
     left-found-in k found e h l =
@@ -101,18 +101,17 @@ module _ (readings : List ℕ) where
     unfolding firstLarge
     left-none h = let m : n - i ≡ 0 = omega arith in rw m (add-zero i)
 
-  pub one-fits : (i : ℕ) → word32 readings (i * 4) ≤ mostReading → from i 1 ≡ 1
+  pub one-fits : (i : ℕ) → word32 readings (i * readingLength) ≤ mostReading → from i 1 ≡ 1
   unfolding firstLarge
   one-fits i h = pass i 0 h
 
-  in-limit : (n i j : ℕ) → from i n ≡ n → j < n → word32 readings ((i + j) * 4) ≤ mostReading
+  in-limit : (n i j : ℕ) → from i n ≡ n → j < n → word32 readings ((i + j) * readingLength) ≤ mostReading
   in-limit zero i j e h = absurd (omega arith)
   in-limit (suc n) i zero e h = rw add-zero (fits i n e .0)
   in-limit (suc n) i (suc j) e h =
       let k : i + 1 + j ≡ i + suc j = omega arith in
       rw k at (in-limit n (i + 1) j (fits i n e .1) (omega arith))
 
-  -- one that is too large among n readings
   -- WHAT NO TOO LARGE READING MEANS: each is within the limit.
-  pub none-large : (n i : ℕ) → firstLarge readings n ≡ n → i < n → word32 readings (i * 4) ≤ mostReading
+  pub none-large : (n i : ℕ) → firstLarge readings n ≡ n → i < n → word32 readings (i * readingLength) ≤ mostReading
   none-large n i e h = rw zero-add at (in-limit n 0 i e h)

@@ -8,7 +8,7 @@ use mir.Facts.{and-yes, ltb-yes}
 use lib.Dec.{ltb}
 use borrow.Author.Tests.{not-false}
 use lib.Bits.{bitOr, or-add-and, and-le-r, or-comm, or-shr, or-mod}
-use Rattle.readings.specs.Packed.{Small, Passes}
+use Rattle.readings.specs.Packed.{isSmall, Small, Passes}
 use Rattle.readings.proofs.Large.{join}
 
 or-above : (a b : ℕ) → a ≤ bitOr a b
@@ -32,7 +32,7 @@ pub passes-or : (readings : List ℕ) (i k n a b : ℕ) → Passes readings i k 
 passes-or readings i k n a b p q s = join readings k n i (p (small-left a b s)) (q (small-right a b s))
 
 -- what the test of the two bytes tells
-pub small-of : (x : ℕ) (t : Bool) → t ≡ ltb (x % 256) 32 && ltb (x / 4294967296 % 256) 32 → not t ≡ false → Small x
+pub small-of : (x : ℕ) (t : Bool) → t ≡ isSmall x → not t ≡ false → Small x
 small-of x t e f =
     let both = and-yes (ltb (x % 256) 32) (ltb (x / 4294967296 % 256) 32) (rw (← e, not-false t f) tt) in
     (ltb-yes (both .0), ltb-yes (both .1))

@@ -5,7 +5,20 @@ use Prim.Native.Nat.{ℕ, zero, suc, _+_, _*_, _-_, _≤_}
 use lib.Dec.{ltb}
 use lib.ListN.{drop, getD}
 use Rattle.numbers.specs.Lists.{run, sum}
+use Rattle.numbers.specs.Slots.{slotsOfDay, daysBack, windowSlots}
 use Rattle.numbers.specs.Words.{word32}
+
+-- 'readings of 4 bytes'
+abbrev pub readingLength : ℕ
+readingLength = 4
+
+-- a consumer's readings: those of the test day and of the thirty days back, 1,488
+abbrev pub readingCount : ℕ
+readingCount = slotsOfDay * (1 + daysBack)
+
+-- and their bytes, 5,952
+abbrev pub readingsLength : ℕ
+readingsLength = readingCount * readingLength
 
 -- Wh
 abbrev pub mostReading : ℕ
@@ -14,27 +27,37 @@ mostReading = 1_000_000_000
 -- the place of the first of n readings that is above the limit, counted from 0, or n where none is
 unfoldable pub firstLarge : List ℕ → ℕ → ℕ
 firstLarge readings zero = 0
-firstLarge readings (suc n) = cond (ltb mostReading (word32 readings 0)) 0 (suc (firstLarge (drop 4 readings) n))
+firstLarge readings (suc n) = cond (ltb mostReading (word32 readings 0)) 0 (suc (firstLarge (drop readingLength readings) n))
 
 -- slot i, 0 to 47, of day k back; day 0 is the test day
 abbrev pub reading : List ℕ → ℕ → ℕ → ℕ
-reading readings k i = word32 readings ((48 * k + i) * 4)
+reading readings k i = word32 readings ((slotsOfDay * k + i) * readingLength)
 
 -- The window is slots s to s + 5. 'A day's window sum is the sum of its six window readings.'
 abbrev pub windowSum : List ℕ → ℕ → ℕ → ℕ
-windowSum readings s k = sum (run (reading readings k) s 6)
+windowSum readings s k = sum (run (reading readings k) s windowSlots)
 
 -- the window sums of days 1 to 30 back
 unfoldable pub windowSums : List ℕ → ℕ → List ℕ
-windowSums readings s = run (windowSum readings s) 1 30
+windowSums readings s = run (windowSum readings s) 1 daysBack
+
+-- the last slot from which a window lies within the day
+abbrev pub lastWindow : ℕ
+lastWindow = slotsOfDay - windowSlots
 
 -- The earlier slots are s − 10 to s − 5: 'from five hours to two hours before it'.
-abbrev pub earlierSlot : ℕ → ℕ
-earlierSlot s = s - 10
+abbrev pub earlierBy : ℕ
+earlierBy = 10
 
--- the six slots from slot i on, each over some days
+abbrev pub earlierSlot : ℕ → ℕ
+earlierSlot s = s - earlierBy
+
+-- a slot over some days, and the six slots from slot i on
+abbrev pub slotSum : List ℕ → List ℕ → ℕ → ℕ
+slotSum readings days slot = sum (map (λ k. reading readings k slot) days)
+
 unfoldable pub slotSums : List ℕ → List ℕ → ℕ → List ℕ
-slotSums readings days i = run (λ slot. sum (map (λ k. reading readings k slot) days)) i 6
+slotSums readings days i = run (slotSum readings days) i windowSlots
 
 -- 'six window sums and six earlier sums, each over the four chosen days'
 unfoldable pub daySums : List ℕ → List ℕ → ℕ → List (List ℕ)
@@ -46,4 +69,4 @@ earlierUse readings s = windowSum readings (earlierSlot s) 0
 
 -- days of which none is farther than thirty; past the last day stands 0
 abbrev pub Back : List ℕ → Type 0
-Back days = (i : ℕ) → getD days i 0 ≤ 30
+Back days = (i : ℕ) → getD days i 0 ≤ daysBack

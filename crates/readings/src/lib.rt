@@ -1,27 +1,35 @@
 // A consumer's readings, of four bytes each: the test day's 48, then those of days 1 to 30 back.
 ghost use mathlib.Core.Path.{_≡_};
-ghost use mathlib.Core.Bool.{_&&_};
-ghost use mathlib.Core.List.{map};
 ghost use Prim.Native.Nat.{_<_, _≤_, _+_, _-_, _*_, _/_, _%_};
-ghost use lib.Dec.{ltb};
 ghost use lib.ListN.{length, drop};
 ghost use Rattle.numbers.specs.Lists.{run, sum};
+ghost use Rattle.numbers.specs.Slots.{slotsOfDay, daysBack, windowSlots};
 ghost use Rattle.numbers.specs.Words.{word32};
-ghost use Rattle.readings.specs.Readings.{mostReading, firstLarge, reading, windowSum, windowSums, slotSums, daySums, earlierUse, Back};
-ghost use Rattle.readings.specs.Packed.{Passes};
+ghost use Rattle.readings.specs.Readings.{mostReading, readingLength, readingsLength, lastWindow, earlierBy, firstLarge, reading};
+ghost use Rattle.readings.specs.Readings.{windowSum, windowSums, slotSum, slotSums, daySums, earlierUse, Back};
+ghost use Rattle.readings.specs.Packed.{isSmall, Passes};
+use numbers::DAYS_BACK;
+use numbers::SLOTS_OF_DAY;
+use numbers::WINDOW_SLOTS;
 use numbers::word32_at;
 
 // Wh
 const MOST_READING: u32 = 1_000_000_000;
 
+// The bytes of a reading.
+pub const READING_LENGTH: usize = 4;
+
+// The earlier slots begin so many slots before the window.
+const EARLIER_BY: usize = 10;
+
 // The first of n readings that is too large, from reading `start` on, or n.
 fn first_large_from(readings: &[u8], start: usize, n: usize) -> usize
-    requires { ⌜ (start ≤ n) × (n * 4 ≤ length (now readings)) ⌝ }
-    ensures { λ r. ⌜ r ≡ start + firstLarge (drop (start * 4) (now (readings .entry))) (n - start) ⌝ }
+    requires { ⌜ (start ≤ n) × (n * readingLength ≤ length (now readings)) ⌝ }
+    ensures { λ r. ⌜ r ≡ start + firstLarge (drop (start * readingLength) (now (readings .entry))) (n - start) ⌝ }
 {
     let mut i = start;
     while i < n {
-        if MOST_READING < word32_at(readings, i * 4) {
+        if MOST_READING < word32_at(readings, i * READING_LENGTH) {
             return i;
         }
         i += 1;
@@ -38,10 +46,10 @@ fn turned(a: u8, b: u8, c: u8, d: u8) -> u32
 
 // Its four places are counted as `word32` counts them.
 fn one_packed(readings: &[u8], i: usize) -> u32
-    requires { ⌜ (i + 1) * 4 ≤ length (now readings) ⌝ }
-    ensures { λ r. ⌜ (r % 256 < 32 → firstLarge (drop (i * 4) (now (readings .entry))) 1 ≡ 1) ⌝ }
+    requires { ⌜ (i + 1) * readingLength ≤ length (now readings) ⌝ }
+    ensures { λ r. ⌜ (r % 256 < 32 → firstLarge (drop (i * readingLength) (now (readings .entry))) 1 ≡ 1) ⌝ }
 {
-    let at = i * 4;
+    let at = i * READING_LENGTH;
     turned(
         readings[at],
         readings[at + 1],
@@ -60,28 +68,28 @@ fn beside(low: u32, high: u32) -> u64
 // Readings packed into one number, two side by side and the others over them by `|`. The compiler makes of it one load and one `or` for
 // four readings, with no test of each.
 fn two_packed(readings: &[u8], i: usize) -> u64
-    requires { ⌜ (i + 2) * 4 ≤ length (now readings) ⌝ }
+    requires { ⌜ (i + 2) * readingLength ≤ length (now readings) ⌝ }
     ensures { λ r. ⌜ Passes (now (readings .entry)) i 2 r ⌝ }
 {
     beside(one_packed(readings, i), one_packed(readings, i + 1))
 }
 
 fn four_packed(readings: &[u8], i: usize) -> u64
-    requires { ⌜ (i + 4) * 4 ≤ length (now readings) ⌝ }
+    requires { ⌜ (i + 4) * readingLength ≤ length (now readings) ⌝ }
     ensures { λ r. ⌜ Passes (now (readings .entry)) i 4 r ⌝ }
 {
     two_packed(readings, i) | two_packed(readings, i + 2)
 }
 
 fn eight_packed(readings: &[u8], i: usize) -> u64
-    requires { ⌜ (i + 8) * 4 ≤ length (now readings) ⌝ }
+    requires { ⌜ (i + 8) * readingLength ≤ length (now readings) ⌝ }
     ensures { λ r. ⌜ Passes (now (readings .entry)) i 8 r ⌝ }
 {
     four_packed(readings, i) | four_packed(readings, i + 4)
 }
 
 fn sixteen_packed(readings: &[u8], i: usize) -> u64
-    requires { ⌜ (i + 16) * 4 ≤ length (now readings) ⌝ }
+    requires { ⌜ (i + 16) * readingLength ≤ length (now readings) ⌝ }
     ensures { λ r. ⌜ Passes (now (readings .entry)) i 16 r ⌝ }
 {
     eight_packed(readings, i) | eight_packed(readings, i + 8)
@@ -89,14 +97,14 @@ fn sixteen_packed(readings: &[u8], i: usize) -> u64
 
 // Whether the high bytes of packed readings are all below 32.
 fn is_small(packed: u64) -> bool
-    ensures { λ r. ⌜ r ≡ ltb (packed % 256) 32 && ltb (packed / 4294967296 % 256) 32 ⌝ }
+    ensures { λ r. ⌜ r ≡ isSmall packed ⌝ }
 {
     packed % 256 < 32 && packed / 4294967296 % 256 < 32
 }
 
 // The first of n readings that is too large, counted from 0, or n. Sixteen are passed at a time; where they are not all small, one by one.
 pub fn first_large(readings: &[u8], n: usize) -> usize
-    requires { ⌜ n * 4 ≤ length (now readings) ⌝ }
+    requires { ⌜ n * readingLength ≤ length (now readings) ⌝ }
     ensures { λ r. ⌜ r ≡ firstLarge (now (readings .entry)) n ⌝ }
 {
     let mut i: usize = 0;
@@ -121,35 +129,35 @@ fn sum6(a: u32, b: u32, c: u32, d: u32, e: u32, f: u32) -> u64
 
 // The six readings from reading `first` on, together.
 fn six_from(readings: &[u8], first: usize) -> u64
-    requires { ⌜ (first + 6) * 4 ≤ length (now readings) ⌝ }
-    ensures { λ r. ⌜ r ≡ sum (run (λ i. word32 (now (readings .entry)) (i * 4)) first 6) ⌝ }
+    requires { ⌜ (first + windowSlots) * readingLength ≤ length (now readings) ⌝ }
+    ensures { λ r. ⌜ r ≡ sum (run (λ i. word32 (now (readings .entry)) (i * readingLength)) first windowSlots) ⌝ }
 {
     sum6(
-        word32_at(readings, first * 4),
-        word32_at(readings, (first + 1) * 4),
-        word32_at(readings, (first + 2) * 4),
-        word32_at(readings, (first + 3) * 4),
-        word32_at(readings, (first + 4) * 4),
-        word32_at(readings, (first + 5) * 4),
+        word32_at(readings, first * READING_LENGTH),
+        word32_at(readings, (first + 1) * READING_LENGTH),
+        word32_at(readings, (first + 2) * READING_LENGTH),
+        word32_at(readings, (first + 3) * READING_LENGTH),
+        word32_at(readings, (first + 4) * READING_LENGTH),
+        word32_at(readings, (first + 5) * READING_LENGTH),
     )
 }
 
 // The sum of a day's six readings from a slot on.
 fn window_sum(readings: &[u8], slot: usize, day: usize) -> u64
-    requires { ⌜ (length (now readings) ≡ 5952) × (slot ≤ 42) × (day ≤ 30) ⌝ }
+    requires { ⌜ (length (now readings) ≡ readingsLength) × (slot ≤ lastWindow) × (day ≤ daysBack) ⌝ }
     ensures { λ r. ⌜ r ≡ windowSum (now (readings .entry)) slot day ⌝ }
 {
-    six_from(readings, 48 * day + slot)
+    six_from(readings, SLOTS_OF_DAY * day + slot)
 }
 
 // The window sums of days 1 to 30 back.
-pub fn window_sums(readings: &[u8], slot: usize) -> [u64; 30]
-    requires { ⌜ (length (now readings) ≡ 5952) × (slot ≤ 42) ⌝ }
+pub fn window_sums(readings: &[u8], slot: usize) -> [u64; DAYS_BACK]
+    requires { ⌜ (length (now readings) ≡ readingsLength) × (slot ≤ lastWindow) ⌝ }
     ensures { λ r. ⌜ r ≡ windowSums (now (readings .entry)) slot ⌝ }
 {
-    let mut sums = [0u64; 30];
+    let mut sums = [0u64; DAYS_BACK];
     let mut k: usize = 0;
-    while k < 30 {
+    while k < DAYS_BACK {
         sums[k] = window_sum(readings, slot, k + 1);
         k += 1;
     }
@@ -158,18 +166,18 @@ pub fn window_sums(readings: &[u8], slot: usize) -> [u64; 30]
 
 // The test day's six earlier readings together.
 pub fn earlier_use(readings: &[u8], slot: usize) -> u64
-    requires { ⌜ (length (now readings) ≡ 5952) × (10 ≤ slot) × (slot ≤ 42) ⌝ }
+    requires { ⌜ (length (now readings) ≡ readingsLength) × (earlierBy ≤ slot) × (slot ≤ lastWindow) ⌝ }
     ensures { λ r. ⌜ r ≡ earlierUse (now (readings .entry)) slot ⌝ }
 {
-    window_sum(readings, slot - 10, 0)
+    window_sum(readings, slot - EARLIER_BY, 0)
 }
 
 // A day's reading in a slot.
 fn reading_of(readings: &[u8], day: usize, slot: usize) -> u32
-    requires { ⌜ (length (now readings) ≡ 5952) × (day ≤ 30) × (slot < 48) ⌝ }
+    requires { ⌜ (length (now readings) ≡ readingsLength) × (day ≤ daysBack) × (slot < slotsOfDay) ⌝ }
     ensures { λ r. ⌜ r ≡ reading (now (readings .entry)) day slot ⌝ }
 {
-    word32_at(readings, (48 * day + slot) * 4)
+    word32_at(readings, (SLOTS_OF_DAY * day + slot) * READING_LENGTH)
 }
 
 // Four readings together.
@@ -181,8 +189,8 @@ fn sum4(a: u32, b: u32, c: u32, d: u32) -> u64
 
 // A slot over four days.
 fn slot_sum(readings: &[u8], days: [usize; 4], slot: usize) -> u64
-    requires { ⌜ (length (now readings) ≡ 5952) × (slot < 48) × Back days ⌝ }
-    ensures { λ r. ⌜ r ≡ sum (map (λ k. reading (now (readings .entry)) k slot) days) ⌝ }
+    requires { ⌜ (length (now readings) ≡ readingsLength) × (slot < slotsOfDay) × Back days ⌝ }
+    ensures { λ r. ⌜ r ≡ slotSum (now (readings .entry)) days slot ⌝ }
 {
     sum4(
         reading_of(readings, days[0], slot),
@@ -193,13 +201,13 @@ fn slot_sum(readings: &[u8], days: [usize; 4], slot: usize) -> u64
 }
 
 // The six slots from one on, each over four days.
-fn slot_sums(readings: &[u8], days: [usize; 4], slot: usize) -> [u64; 6]
-    requires { ⌜ (length (now readings) ≡ 5952) × (slot ≤ 42) × Back days ⌝ }
+fn slot_sums(readings: &[u8], days: [usize; 4], slot: usize) -> [u64; WINDOW_SLOTS]
+    requires { ⌜ (length (now readings) ≡ readingsLength) × (slot ≤ lastWindow) × Back days ⌝ }
     ensures { λ r. ⌜ r ≡ slotSums (now (readings .entry)) days slot ⌝ }
 {
-    let mut sums = [0u64; 6];
+    let mut sums = [0u64; WINDOW_SLOTS];
     let mut j: usize = 0;
-    while j < 6 {
+    while j < WINDOW_SLOTS {
         sums[j] = slot_sum(readings, days, slot + j);
         j += 1;
     }
@@ -207,11 +215,11 @@ fn slot_sums(readings: &[u8], days: [usize; 4], slot: usize) -> [u64; 6]
 }
 
 // Six window sums and six earlier sums, each over four days.
-pub fn day_sums(readings: &[u8], days: [usize; 4], slot: usize) -> [[u64; 6]; 2]
-    requires { ⌜ (length (now readings) ≡ 5952) × (10 ≤ slot) × (slot ≤ 42) × Back days ⌝ }
+pub fn day_sums(readings: &[u8], days: [usize; 4], slot: usize) -> [[u64; WINDOW_SLOTS]; 2]
+    requires { ⌜ (length (now readings) ≡ readingsLength) × (earlierBy ≤ slot) × (slot ≤ lastWindow) × Back days ⌝ }
     ensures { λ r. ⌜ r ≡ daySums (now (readings .entry)) days slot ⌝ }
 {
     let window = slot_sums(readings, days, slot);
-    let earlier = slot_sums(readings, days, slot - 10);
+    let earlier = slot_sums(readings, days, slot - EARLIER_BY);
     [window, earlier]
 }

@@ -6,13 +6,12 @@ use Prim.Native.Nat.{ℕ, suc, _+_, _/_, _%_, _≤_}
 use native.Mathlib.Omega.{arith}
 use lib.ListN.{length, take, drop, length-append, take-append-drop}
 use lib.Seq.{take-at, drop-at, length-take-le, getD-drop}
-use Rattle.numbers.specs.Words.{bytesOf}
+use Rattle.numbers.specs.Words.{bytesOf, Bytes}
 use Rattle.fields.specs.Fields.{tagAt, isTag, lengthDue, valueIn, behind, written, headerRefusal}
 use Rattle.fields.specs.declared.Due.{Due}
 use Rattle.fields.proofs.Headers.{length-small, header-good, Header, header-shows}
 use Rattle.fields.proofs.Answers.{field-good, Answer, no-header, no-value, whole, answer}
 use Rattle.book.specs.Reading.{good, Part, field}
-use Rattle.round_trips.specs.Demand2.{Bytes}
 
 drop-three : {A : Type 0} (n : ℕ) (a b c : A) (xs : List A) → drop (3 + n) (a ∷ b ∷ c ∷ xs) ≡ drop n xs
 drop-three n a b c xs = let e : 3 + n ≡ suc (suc (suc n)) = omega arith in rw e

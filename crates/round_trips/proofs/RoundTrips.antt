@@ -11,6 +11,7 @@ use borrow.Author.Tests.{eqb-true, not-false, lt-leb, lt-ltb, le-ltb}
 use lib.Dec.{T, ltb}
 use lib.ListN.{length}
 use mir.Facts.{and-yes, yes-and}
+use Rattle.numbers.specs.Words.{Bytes}
 use Rattle.numbers.specs.Lists.{gather}
 use Rattle.numbers.specs.PointNumbers.{below}
 use Rattle.numbers.specs.Refusals.{firstOf}
@@ -29,7 +30,7 @@ use Rattle.fields.specs.Fields.{written}
 use Rattle.book.specs.Reading.{good, Points, before, readPoints, Book, bookOf, readBook}
 use Rattle.book.specs.Settling.{settlingRefusal}
 use Rattle.fields.specs.Writing.{roomRow, headWritingRefusal, pointWritingTests, pointWritingRefusal}
-use Rattle.round_trips.specs.Demand2.{risesAfter, rises, headRoom, roomFor, Each, Bytes, ReadsBack, ReadInFull, WrittenGivesZero, ReadsWritable, WritesSame, writtenBook}
+use Rattle.round_trips.specs.Demand2.{risesAfter, rises, headRoom, roomFor, Each, ReadsBack, ReadInFull, WrittenGivesZero, ReadsWritable, WritesSame, writtenBook}
 use Rattle.fields.specs.declared.Due.the-variants as due
 use Rattle.round_trips.proofs.Cutting.{reads-field, was-written}
 use Rattle.book.proofs.Readings.{Points-read, none, more, book-read}

@@ -3,10 +3,11 @@
 use mathlib.Core.Path.{_≡_}
 use mathlib.Core.Bool.{Bool, true, not, _&&_}
 use mathlib.Core.List.{List, [], _∷_, _++_, map}
-use Prim.Native.Nat.{ℕ, _+_, _<_}
+use Prim.Native.Nat.{ℕ, _+_}
 use lib.Dec.{T}
-use lib.ListN.{length, getD}
+use lib.ListN.{length}
 use Rattle.numbers.specs.Lists.{gather}
+use Rattle.numbers.specs.Words.{Bytes}
 use Rattle.numbers.specs.PointNumbers.{below}
 use Rattle.heads.specs.Heads.{headOf}
 use Rattle.points.specs.Points.{Point, kindOf, numberOf}
@@ -73,10 +74,6 @@ WrittenGivesZero = (b : Contents) → Writable b → settlingRefusal (writtenBoo
 -- What a book that is read in full reads back to is what the writing calls take, whatever its bytes.
 abbrev pub ReadsWritable : Type 0
 ReadsWritable = (book : List ℕ) (r : Book) → readBook book ≡ good r → Writable (r .contents)
-
--- what a slice of bytes holds
-abbrev pub Bytes : List ℕ → Type 0
-Bytes bytes = (i : ℕ) → getD bytes i 0 < 256
 
 -- 'A book that is read in full would be written with the same bytes.'
 abbrev pub WritesSame : Type 0

@@ -3,10 +3,10 @@ use mathlib.Core.Path.{_≡_, refl}
 use mathlib.Core.List.{[], _∷_, _++_}
 use lib.IntN.{pos, negℤ}
 use lib.ListN.{replicate}
-use Rattle.numbers.specs.Lists.{run, sum, filter, any, gather}
+use Rattle.numbers.specs.Lists.{run, sum, filter, any, gather, same}
 use Rattle.integers.specs.Integers.{sumℤ}
 use Rattle.numbers.specs.Words.{bytesOf}
-use Rattle.numbers.specs.PointNumbers.{digits, same, isNumber, below}
+use Rattle.numbers.specs.PointNumbers.{digits, isNumber, below}
 use Rattle.calendar.specs.Dates.{isDate, dayCount}
 use Rattle.readings.specs.Readings.{firstLarge, windowSums, slotSums, daySums, earlierUse}
 use Rattle.baseline.specs.Choosing.{walk, lowest, used, chosen}

@@ -1,9 +1,9 @@
 -- The worked sequences hold, by computing. Assumes nothing.
 use mathlib.Core.Path.{refl}
-use Rattle.numbers.specs.Lists.{run, sum, filter, any, gather}
+use Rattle.numbers.specs.Lists.{run, sum, filter, any, gather, same}
 use Rattle.integers.specs.Integers.{sumℤ}
 use Rattle.numbers.specs.Words.{bytesOf}
-use Rattle.numbers.specs.PointNumbers.{digits, same, isNumber, below}
+use Rattle.numbers.specs.PointNumbers.{digits, isNumber, below}
 use Rattle.calendar.specs.Dates.{isDate, dayCount}
 use Rattle.readings.specs.Readings.{firstLarge, windowSums, slotSums, daySums, earlierUse}
 use Rattle.baseline.specs.Choosing.{walk, lowest, used, chosen}
@@ -16,19 +16,8 @@ use Rattle.ledger.specs.Operations.{openOf, pointRefusal, addingRefusal, addOf,
 use Rattle.account.specs.Account.{opening, saysOf, account}
 use Rattle.ledger.specs.Calls.{replies, program}
 use Rattle.worked_examples.specs.Examples.{highVoltage}
-use Rattle.worked_examples.specs.Sequences.{PartsOfkW, WithRemainder, WithoutRemainder, WorkedSequences}
-
-parts-of-kW : PartsOfkW
-unfolding headOf bytesOf
-parts-of-kW = refl
-
-with-remainder : WithRemainder
-unfolding run sum filter any gather sumℤ bytesOf digits same isNumber below isDate dayCount firstLarge windowSums slotSums daySums earlierUse walk lowest used chosen headOf contentRefusal openingRefusal quotients isUnsound plus taken figuresOf openOf pointRefusal addingRefusal addOf closingRefusal closeOf replies program opening saysOf account highVoltage
-with-remainder = ((refl, refl), refl)
-
-without-remainder : WithoutRemainder
-unfolding run sum filter any gather sumℤ bytesOf digits same isNumber below isDate dayCount firstLarge windowSums slotSums daySums earlierUse walk lowest used chosen headOf contentRefusal openingRefusal quotients isUnsound plus taken figuresOf openOf pointRefusal addingRefusal addOf closingRefusal closeOf replies program opening saysOf account highVoltage
-without-remainder = (refl, refl)
+use Rattle.worked_examples.specs.Sequences.{WorkedSequences}
 
 pub worked-sequences : WorkedSequences
-worked-sequences = (parts-of-kW, with-remainder, without-remainder)
+unfolding run sum filter any gather sumℤ bytesOf digits same isNumber below isDate dayCount firstLarge windowSums slotSums daySums earlierUse walk lowest used chosen headOf contentRefusal openingRefusal quotients isUnsound plus taken figuresOf openOf pointRefusal addingRefusal addOf closingRefusal closeOf replies program opening saysOf account highVoltage
+worked-sequences = (refl, ((refl, refl), refl), (refl, refl))

@@ -12,8 +12,10 @@ use Rattle.calendar.specs.Dates.{dayCount}
 use Rattle.calendar.specs.Eligible.{ofDay, eligibleDays}
 use Rattle.readings.specs.Readings.{daySums, earlierUse}
 use Rattle.baseline.specs.Choosing.{standing, chosen}
-use Rattle.baseline.specs.Baseline.{chosenDays, baseline}
+use Rattle.baseline.specs.Baseline.{baseline}
+use Rattle.heads.specs.Heads.{headOf}
 use Rattle.points.specs.Points.{consumer, readingsOf}
+use Rattle.results.specs.SlotResults.{daysOf}
 use Rattle.figures.specs.Figures.{figuresOf}
 use Rattle.ledger.specs.Operations.{openOf, addOf, placesOf}
 use Rattle.figures.specs.declared.Figures.{Figures}
@@ -57,8 +59,9 @@ placesWith earlier used = placesOf (stateWith (replicate 30 0)) 3 (highVoltage e
 -- its six baselines
 unfoldable pub baselinesWith : ℕ → ℕ → List ℕ
 baselinesWith earlier used =
-    let readings = readingsOf consumer (highVoltage earlier used) in
-    let days = chosenDays (dayCount 2024 8 7) (replicate 30 0) readings 26 in
+    let value = highVoltage earlier used in
+    let readings = readingsOf consumer value in
+    let days = daysOf (headOf head) (replicate 30 0) value in
     run (baseline (daySums readings days 26) (earlierUse readings 26)) 0 6
 
 -- the closing figures of a total

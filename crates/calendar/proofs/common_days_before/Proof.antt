@@ -9,22 +9,10 @@ use Rattle.numbers.proofs.Filling.{run-at}
 use Rattle.calendar.proofs.common_days_before.Statement.{statement}
 use Rattle.calendar.proofs.common_days_before.Tie as tie
 
-sub-result : tie.Need-sub-result
-sub-result c = search needs
-
-cast-result : tie.Need-cast-result
-cast-result c = search needs
-
-mul-result : tie.Need-mul-result
-mul-result c = search needs
-
-array-read-result : tie.Need-array-read-result
-array-read-result c = search needs
-
 returns : tie.Need-returns
 unfolding run sum
 returns c = run-at (λ k. sum (take k monthDays)) 12 (c .args .month - 1) 0 (search needs)
 
 pub common-days-before-spec : {M : Type 1} → statement M
 common-days-before-spec =
-    tie.close (tie.spec sub-result cast-result mul-result array-read-result returns)
+    tie.close (tie.spec (λ c. search needs) (λ c. search needs) (λ c. search needs) (λ c. search needs) returns)

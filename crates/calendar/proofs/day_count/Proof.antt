@@ -10,20 +10,8 @@ use Rattle.calendar.proofs.day_count.Tie as tie
 sub-years : tie.Need-sub-years
 sub-years c = let p = parts _ _ _ (c .pre) in omega arith
 
-cast-years : tie.Need-cast-years
-cast-years c = search needs
-
-mul-result : tie.Need-mul-result
-mul-result c = search needs
-
-add-result : tie.Need-add-result
-add-result c = search needs
-
-add-result-2 : tie.Need-add-result-2
-add-result-2 c = search needs
-
 days-before-requires : tie.Need-days-before-requires
-days-before-requires c κs = let p = parts _ _ _ (c .pre) in (p .first-month, p .last-month)
+days-before-requires c κs = parts _ _ _ (c .pre) .is-month
 
 add-result-3 : tie.Need-add-result-3
 unfolding dayCount
@@ -31,9 +19,6 @@ add-result-3 c = omega (arith, count-most _ _ _ (c .before .pre))
 
 sub-result : tie.Need-sub-result
 sub-result c = let p = parts _ _ _ (c .before .pre) in p .first-day
-
-cast-result : tie.Need-cast-result
-cast-result c = search needs
 
 add-result-4 : tie.Need-add-result-4
 unfolding dayCount
@@ -50,13 +35,13 @@ day-count-spec =
     tie.close
     (tie.spec
     sub-years
-    cast-years
-    mul-result
-    add-result
-    add-result-2
+    (λ c. search needs)
+    (λ c. search needs)
+    (λ c. search needs)
+    (λ c. search needs)
     days-before-requires
     add-result-3
     sub-result
-    cast-result
+    (λ c. search needs)
     add-result-4
     returns)

@@ -8,16 +8,10 @@ use Rattle.calendar.proofs.Dates.{month-end}
 use Rattle.calendar.proofs.days_before.Statement.{statement}
 use Rattle.calendar.proofs.days_before.Tie as tie
 
-common-days-before-requires : tie.Need-common-days-before-requires
-common-days-before-requires c κs = search needs
-
-is-leap-requires : tie.Need-is-leap-requires
-is-leap-requires c κs = search needs
-
 add-result : tie.Need-add-result
 add-result c =
-    let m = c .before .before .before .before .args .month in
-    omega (arith, month-end m (omega arith) (omega arith))
+    let s = c .before .before .before .before in
+    omega (arith, month-end (s .args .month) (s .pre))
 
 returns : tie.Need-returns
 returns c =
@@ -35,4 +29,4 @@ returns-2 c =
 
 pub days-before-spec : {M : Type 1} → statement M
 days-before-spec =
-    tie.close (tie.spec common-days-before-requires is-leap-requires add-result returns returns-2)
+    tie.close (tie.spec (λ c κs. search needs) (λ c κs. search needs) add-result returns returns-2)

@@ -5,9 +5,6 @@ use Rattle.calendar.proofs.Dates.{thirty, thirty-one}
 use Rattle.calendar.proofs.days_in.Statement.{statement}
 use Rattle.calendar.proofs.days_in.Tie as tie
 
-is-leap-requires : tie.Need-is-leap-requires
-is-leap-requires c κs = search needs
-
 returns : tie.Need-returns
 returns c = rw (← c .before .is-leap .ensures, c .if1 .taken, c .before .before .match .keys1)
 
@@ -20,8 +17,7 @@ returns-3 c = let a = c .before .args in sym (thirty (a .year) (a .month) (c .ma
 returns-4 : tie.Need-returns-4
 returns-4 c =
     let a = c .before .args in
-    let p = c .before .pre in
-    sym (thirty-one (a .month) (p .0) (p .1) (a .year) (c .match .rest .0 .1) (c .match .rest .1))
+    sym (thirty-one (a .month) (c .before .pre) (a .year) (c .match .rest .0 .1) (c .match .rest .1))
 
 pub days-in-spec : {M : Type 1} → statement M
-days-in-spec = tie.close (tie.spec is-leap-requires returns returns-2 returns-3 returns-4)
+days-in-spec = tie.close (tie.spec (λ c κs. search needs) returns returns-2 returns-3 returns-4)

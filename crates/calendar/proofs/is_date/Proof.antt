@@ -3,13 +3,10 @@ use mathlib.Core.Path.{sym, _∙_}
 use native.Mathlib.Omega.{arith}
 use borrow.Author.Needs.{needs}
 use borrow.Author.Tests.{le-leb, lt-leb}
-use Rattle.calendar.specs.Dates.{isDate}
+use Rattle.calendar.specs.Dates.{firstYear, lastYear, isDate}
 use Rattle.calendar.proofs.Dates.{not-date}
 use Rattle.calendar.proofs.is_date.Statement.{statement}
 use Rattle.calendar.proofs.is_date.Tie as tie
-
-days-in-requires : tie.Need-days-in-requires
-days-in-requires c κs = search needs
 
 returns : tie.Need-returns
 unfolding isDate
@@ -18,8 +15,8 @@ returns c =
     let year = a .year in
     let month = a .month in
     simp (
-      le-leb 2020 year (omega arith),
-      le-leb year 2099 (omega arith),
+      le-leb firstYear year (omega arith),
+      le-leb year lastYear (omega arith),
       le-leb 1 month (omega arith),
       le-leb month 12 (omega arith),
       le-leb 1 (a .day) (omega arith),
@@ -29,18 +26,6 @@ returns c =
 returns-2 : tie.Need-returns-2
 returns-2 c = lt-leb _ _ (c .if5 .left) ∙ sym (not-date _ _ _ λ p. omega arith)
 
-returns-3 : tie.Need-returns-3
-returns-3 c = sym (not-date _ _ _ λ p. omega arith)
-
-returns-4 : tie.Need-returns-4
-returns-4 c = sym (not-date _ _ _ λ p. omega arith)
-
-returns-5 : tie.Need-returns-5
-returns-5 c = sym (not-date _ _ _ λ p. omega arith)
-
-returns-6 : tie.Need-returns-6
-returns-6 c = sym (not-date _ _ _ λ p. omega arith)
-
 pub is-date-spec : {M : Type 1} → statement M
 is-date-spec =
-    tie.close (tie.spec days-in-requires returns returns-2 returns-3 returns-4 returns-5 returns-6)
+    tie.close (tie.spec (λ c κs. search needs) returns returns-2 (λ c. sym (not-date _ _ _ λ p. omega arith)) (λ c. sym (not-date _ _ _ λ p. omega arith)) (λ c. sym (not-date _ _ _ λ p. omega arith)) (λ c. sym (not-date _ _ _ λ p. omega arith)))

@@ -12,9 +12,6 @@ use Rattle.integers.proofs.floor_div.Tie as tie
 divisor : (c : tie.Start) → toZ w64 (c .args .d) ≡ pos (c .args .d)
 divisor c = toZ-pos w64 (omega arith)
 
-cast-divisor : tie.Need-cast-divisor
-cast-divisor c = search needs
-
 div-quotient : tie.Need-div-quotient
 div-quotient c = (c .pre, quot-fits (c .fits .z) (divisor c) (c .pre))
 
@@ -32,4 +29,4 @@ returns-2 c = let s = c .before in floor-whole (s .fits .z) (divisor s) (s .pre)
 
 pub floor-div-spec : {M : Type 1} → statement M
 floor-div-spec =
-    tie.close (tie.spec cast-divisor div-quotient rem-if1 sub-result returns returns-2)
+    tie.close (tie.spec (λ c. search needs) div-quotient rem-if1 sub-result returns returns-2)

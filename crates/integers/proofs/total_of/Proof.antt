@@ -7,7 +7,8 @@ use lib.ListN.{length, getD, drop}
 use mir.Syntax.{w64}
 use mir.Val.{toZ}
 use borrow.Author.Needs.{needs}
-use Rattle.integers.specs.Integers.{sumℤ}
+use Rattle.numbers.specs.Slots.{windowSlots}
+use Rattle.integers.specs.Integers.{sumℤ, mostSummand}
 use Rattle.integers.proofs.Machine.{back, told, sum-abs}
 use Rattle.integers.proofs.Sums.{sumℤ-next, sumℤ-end}
 use Rattle.integers.proofs.total_of.Statement.{statement}
@@ -15,30 +16,18 @@ use Rattle.integers.proofs.total_of.Tie as tie
 
 abbrev Inv-loop : tie.InvT-loop
 Inv-loop totals total₀ i₀ total i =
-    (i ≤ 6) × (length totals ≡ 6) × (natAbs (toZ w64 total) ≤ i * 1_000_000_000_000_000) × (sumℤ totals ≡ toZ w64 total +ℤ sumℤ (drop i totals))
+    (i ≤ windowSlots) × (length totals ≡ windowSlots) × (natAbs (toZ w64 total) ≤ i * mostSummand) × (sumℤ totals ≡ toZ w64 total +ℤ sumℤ (drop i totals))
 
 abbrev μ-loop : tie.MeasureT-loop
-μ-loop totals total₀ i₀ total i = 6 - i
+μ-loop totals total₀ i₀ total i = windowSlots - i
 
 loop-holds : tie.Need-loop-holds Inv-loop μ-loop
 loop-holds c = (search needs, search needs, search needs, sym (+ℤ-idl _))
-
-mul-add-bounded : tie.Need-mul-add-bounded Inv-loop μ-loop
-mul-add-bounded c = search needs
-
-array-copy-out-add-bounded : tie.Need-array-copy-out-add-bounded Inv-loop μ-loop
-array-copy-out-add-bounded c = search needs
 
 add-bounded-requires : tie.Need-add-bounded-requires Inv-loop μ-loop
 add-bounded-requires c κs =
     let l = c .before .before in
     rw (told w64 (c .add-bounded-arg .given) refl) (omega (arith, l .before .pre (l .loop .i)))
-
-add-i : tie.Need-add-i Inv-loop μ-loop
-add-i c = search needs
-
-loop-less : tie.Need-loop-less Inv-loop μ-loop
-loop-less c = search needs
 
 loop-again : tie.Need-loop-again Inv-loop μ-loop
 loop-again c =
@@ -62,10 +51,10 @@ total-of-spec =
     Inv-loop
     μ-loop
     loop-holds
-    mul-add-bounded
-    array-copy-out-add-bounded
+    (λ c. search needs)
+    (λ c. search needs)
     add-bounded-requires
-    add-i
-    loop-less
+    (λ c. search needs)
+    (λ c. search needs)
     loop-again
     returns)

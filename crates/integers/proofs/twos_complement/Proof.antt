@@ -5,15 +5,6 @@ use Rattle.integers.proofs.Machine.{is-negative, is-positive}
 use Rattle.integers.proofs.twos_complement.Statement.{statement}
 use Rattle.integers.proofs.twos_complement.Tie as tie
 
-magnitude-requires : tie.Need-magnitude-requires
-magnitude-requires c κs = search needs
-
-sub-result : tie.Need-sub-result
-sub-result c = search needs
-
-magnitude-requires-2 : tie.Need-magnitude-requires-2
-magnitude-requires-2 c κs = search needs
-
 returns : tie.Need-returns
 returns c =
     let s = c .before in
@@ -26,4 +17,4 @@ returns-2 c =
 
 pub twos-complement-spec : {M : Type 1} → statement M
 twos-complement-spec =
-    tie.close (tie.spec magnitude-requires sub-result magnitude-requires-2 returns returns-2)
+    tie.close (tie.spec (λ c κs. search needs) (λ c. search needs) (λ c κs. search needs) returns returns-2)

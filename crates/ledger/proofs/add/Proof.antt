@@ -1,19 +1,18 @@
 -- An early refusal, too few days, and the point taken.
 use mathlib.Core.Path.{_≡_, ap, sym, _∙_}
-use mathlib.Core.Bool.{false}
+use mathlib.Core.Bool.{true, false}
 use Prim.Native.Nat.{ℕ}
 use native.Mathlib.Omega.{arith}
 use lib.ListN.{length}
 use borrow.Author.Needs.{needs}
 use borrow.Author.Tests.{not-true, not-false}
 use Rattle.points.specs.Points.{kindOf}
-use Rattle.results.specs.SlotResults.{lacksDays, results}
-use Rattle.results.specs.Steps.{foundOf}
+use Rattle.results.specs.SlotResults.{lacksDays}
 use Rattle.ledger.specs.States.{taken}
 use Rattle.ledger.specs.Operations.{addingRefusal, addOf, placesOf}
 use Rattle.ledger.specs.declared.Added.{Added}
 use Rattle.ledger.proofs.Sound.{add-good, add-bad}
-use Rattle.ledger.proofs.AddSteps.{Early, early, early-told, found-few, found-all, places-bad, places-good}
+use Rattle.ledger.proofs.AddSteps.{Early, early, early-told, enough-is, found-is, places-bad, places-good}
 use Rattle.ledger.proofs.add.Statement.{statement}
 use Rattle.ledger.proofs.add.Tie as tie
 
@@ -43,17 +42,13 @@ module _ (c : tie.Else2) where
   abbrev passed : tie.Else1
   passed = c .before .before .before .before
 
-  found : let s = start passed in
-      (lacksDays (s .args .state .head) (s .args .state .marks) (kindOf (s .args .tag)) (s .args .value .now) ≡ false)
-      × (foundOf (s .args .state .head) (s .args .state .marks) (kindOf (s .args .tag)) (s .args .value .now) .found
-      ≡ results (s .args .state .head) (s .args .state .marks) (kindOf (s .args .tag)) (s .args .value .now))
-  found =
-      let s = start passed in
-      found-all (s .args .state .head) (s .args .state .marks) (kindOf (s .args .tag)) (s .args .value .now)
-      (ap (λ a. a .enough) (sym (c .before .results-of .ensures)) ∙ not-false _ (c .if2 .left))
+  enough : let s = start passed .args in lacksDays (s .state .head) (s .state .marks) (kindOf (s .tag)) (s .value .now) ≡ false
+  enough =
+      let s = start passed .args in
+      not-true _ (sym (enough-is (s .state .head) (s .state .marks) (kindOf (s .tag)) (s .value .now)) ∙ ap (λ a. a .enough) (sym (c .before .results-of .ensures)) ∙ not-false _ (c .if2 .left))
 
   accepted : refusal (start passed) ≡ 0
-  accepted = facts passed .days ∙ simp (found .0)
+  accepted = facts passed .days ∙ simp enough
 
 returns : tie.Need-returns
 returns c =
@@ -68,7 +63,9 @@ returns-2 : tie.Need-returns-2
 returns-2 c =
     let passed = c .before .before .before .before in
     let s = start passed in
-    let few = found-few (s .args .state .head) (s .args .state .marks) (kindOf (s .args .tag)) (s .args .value .now) (ap (λ a. a .enough) (sym (c .before .results-of .ensures)) ∙ not-true _ (c .if2 .taken)) in
+    let a = s .args in
+    let few : lacksDays (a .state .head) (a .state .marks) (kindOf (a .tag)) (a .value .now) ≡ true =
+    not-false _ (sym (enough-is (a .state .head) (a .state .marks) (kindOf (a .tag)) (a .value .now)) ∙ ap (λ a. a .enough) (sym (c .before .results-of .ensures)) ∙ not-true _ (c .if2 .taken)) in
     refused s 18 (facts passed .days ∙ simp few) (λ z. omega arith)
 
 put-requires : tie.Need-put-requires
@@ -77,7 +74,7 @@ put-requires c κs = facts (passed (c .before .before)) .given .six
 add-totals-requires : tie.Need-add-totals-requires
 add-totals-requires c κs =
     let at = c .before .before .before .before .before in
-    λ i. rw (ap (λ a. a .found) (at .before .results-of .ensures) ∙ found at .1) (facts (passed at) .sums i)
+    λ i. rw (ap (λ a. a .found) (at .before .results-of .ensures) ∙ found-is _ _ (kindOf (start (passed at) .args .tag)) _ (enough at)) (facts (passed at) .sums i)
 
 number-of-requires : tie.Need-number-of-requires
 number-of-requires c κs = facts (passed (c .before .before .before .before .before .before)) .numbered
@@ -90,7 +87,7 @@ unfolding taken
 returns-3 c =
     let at = c .before .before .before .before .before .before .before .before in
     let s = start (passed at) in
-    let r = ap (λ a. a .found) (at .before .results-of .ensures) ∙ found at .1 in (
+    let r = ap (λ a. a .found) (at .before .results-of .ensures) ∙ found-is _ _ (kindOf (start (passed at) .args .tag)) _ (enough at) in (
       rw (c .before .before .add-totals .ensures, c .before .number-of .ensures, r) (sym (add-good (s .args .state) (s .args .tag) (s .args .value .now) (length (s .args .places .now)) (accepted at))),
       c .before .before .before .before .before .put .ensures ∙ r ∙ sym (places-good (s .args .state) (s .args .tag) (s .args .value .now) (s .args .places .now) (accepted at)),
     )

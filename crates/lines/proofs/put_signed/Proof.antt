@@ -4,21 +4,6 @@ use borrow.Author.Needs.{needs}
 use Rattle.lines.proofs.put_signed.Statement.{statement}
 use Rattle.lines.proofs.put_signed.Tie as tie
 
-size-of-requires : tie.Need-size-of-requires
-size-of-requires c κs = search needs
-
-slice-aggregate-put : tie.Need-slice-aggregate-put
-slice-aggregate-put c = search needs
-
-put-requires : tie.Need-put-requires
-put-requires c κs = search needs
-
-put-number-requires : tie.Need-put-number-requires
-put-number-requires c κs = search needs
-
-same-length : tie.Need-same-length
-same-length c = search needs
-
 returns : tie.Need-returns
 returns c =
     let second = c .before .before in
@@ -26,12 +11,6 @@ returns c =
     let taken = first .before .before .before in
     let sized = taken .before in
     (named (with-minus (sized .before .before .fits .number) (taken .if1 .taken) (sized .size-of .ensures)) (then (first .put .ensures) (second .put-number .ensures .0)), search needs)
-
-put-number-requires-2 : tie.Need-put-number-requires-2
-put-number-requires-2 c κs = search needs
-
-same-length-2 : tie.Need-same-length-2
-same-length-2 c = search needs
 
 returns-2 : tie.Need-returns-2
 returns-2 c =
@@ -43,12 +22,12 @@ pub put-signed-spec : {M : Type 1} → statement M
 put-signed-spec =
     tie.close
     (tie.spec
-    size-of-requires
-    slice-aggregate-put
-    put-requires
-    put-number-requires
-    same-length
+    (λ c κs. search needs)
+    (λ c. search needs)
+    (λ c κs. search needs)
+    (λ c κs. search needs)
+    (λ c. search needs)
     returns
-    put-number-requires-2
-    same-length-2
+    (λ c κs. search needs)
+    (λ c. search needs)
     returns-2)

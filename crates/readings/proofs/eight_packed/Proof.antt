@@ -4,19 +4,10 @@ use Rattle.readings.proofs.Packing.{passes-or}
 use Rattle.readings.proofs.eight_packed.Statement.{statement}
 use Rattle.readings.proofs.eight_packed.Tie as tie
 
-four-packed-requires : tie.Need-four-packed-requires
-four-packed-requires c κs = search needs
-
-add-four-packed : tie.Need-add-four-packed
-add-four-packed c = search needs
-
-four-packed-requires-2 : tie.Need-four-packed-requires-2
-four-packed-requires-2 c κs = search needs
-
 returns : tie.Need-returns
 returns c =
     let a = c .before .before .before .args in
     passes-or (a .readings .now) (a .i) 4 4 _ _ (c .before .four-packed .ensures) (c .four-packed2 .ensures)
 
 pub eight-packed-spec : {M : Type 1} → statement M
-eight-packed-spec = tie.close (tie.spec four-packed-requires add-four-packed four-packed-requires-2 returns)
+eight-packed-spec = tie.close (tie.spec (λ c κs. search needs) (λ c. search needs) (λ c κs. search needs) returns)

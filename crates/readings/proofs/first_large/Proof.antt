@@ -6,7 +6,7 @@ use native.Mathlib.Nat.{zero-add, sub-zero}
 use native.Mathlib.Omega.{arith}
 use lib.ListN.{length}
 use borrow.Author.Needs.{needs}
-use Rattle.readings.specs.Readings.{firstLarge}
+use Rattle.readings.specs.Readings.{readingLength, firstLarge}
 use Rattle.readings.proofs.Large.{from, left-pass, left-none-in, left-found-in}
 use Rattle.readings.proofs.Packing.{small-of}
 use Rattle.readings.proofs.first_large.Statement.{statement}
@@ -14,7 +14,7 @@ use Rattle.readings.proofs.first_large.Tie as tie
 
 abbrev Inv-loop : tie.InvT-loop
 Inv-loop readings n i₀ i =
-    (i ≤ n) × (n * 4 ≤ length readings) × (firstLarge readings n ≡ i + from readings i (n - i))
+    (i ≤ n) × (n * readingLength ≤ length readings) × (firstLarge readings n ≡ i + from readings i (n - i))
 
 abbrev μ-loop : tie.MeasureT-loop
 μ-loop readings n i₀ i = n - i
@@ -22,34 +22,13 @@ abbrev μ-loop : tie.MeasureT-loop
 loop-holds : tie.Need-loop-holds Inv-loop μ-loop
 loop-holds c = (search needs, search needs, simp (zero-add, sub-zero))
 
-sub-loop : tie.Need-sub-loop Inv-loop μ-loop
-sub-loop c = omega arith
-
-sixteen-packed-requires : tie.Need-sixteen-packed-requires Inv-loop μ-loop
-sixteen-packed-requires c κs = omega arith
-
-is-small-requires : tie.Need-is-small-requires Inv-loop μ-loop
-is-small-requires c κs = search needs
-
-add-first-large-from : tie.Need-add-first-large-from Inv-loop μ-loop
-add-first-large-from c = omega arith
-
 first-large-from-requires : tie.Need-first-large-from-requires Inv-loop μ-loop
 first-large-from-requires c κs = (omega arith, omega arith)
-
-add-if2 : tie.Need-add-if2 Inv-loop μ-loop
-add-if2 c = omega arith
 
 returns : tie.Need-returns Inv-loop μ-loop
 returns c =
     let l = c .before .before .before .before .before .before .loop in
     sym (l .inv .2 ∙ left-found-in _ (l .i) _ 16 _ (c .before .first-large-from .ensures) (omega (arith, c .if2 .taken)) (omega arith))
-
-add-i : tie.Need-add-i Inv-loop μ-loop
-add-i c = omega arith
-
-loop-less : tie.Need-loop-less Inv-loop μ-loop
-loop-less c = omega arith
 
 loop-again : tie.Need-loop-again Inv-loop μ-loop
 loop-again c =
@@ -63,9 +42,6 @@ loop-again c =
     in
     (omega arith, l .inv .1, l .inv .2 ∙ left-pass s (l .i) _ 16 (omega arith) none)
 
-first-large-from-requires-2 : tie.Need-first-large-from-requires-2 Inv-loop μ-loop
-first-large-from-requires-2 c κs = omega arith
-
 returns-2 : tie.Need-returns-2 Inv-loop μ-loop
 returns-2 c = c .first-large-from2 .ensures ∙ sym (c .before .before .loop .inv .2)
 
@@ -76,15 +52,15 @@ first-large-spec =
     Inv-loop
     μ-loop
     loop-holds
-    sub-loop
-    sixteen-packed-requires
-    is-small-requires
-    add-first-large-from
+    (λ c. omega arith)
+    (λ c κs. omega arith)
+    (λ c κs. search needs)
+    (λ c. omega arith)
     first-large-from-requires
-    add-if2
+    (λ c. omega arith)
     returns
-    add-i
-    loop-less
+    (λ c. omega arith)
+    (λ c. omega arith)
     loop-again
-    first-large-from-requires-2
+    (λ c κs. omega arith)
     returns-2)

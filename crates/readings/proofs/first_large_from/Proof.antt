@@ -4,13 +4,14 @@ use Prim.Native.Nat.{_≤_, _-_, _+_, _*_}
 use native.Mathlib.Omega.{arith}
 use lib.ListN.{length}
 use borrow.Author.Needs.{needs}
+use Rattle.readings.specs.Readings.{readingLength}
 use Rattle.readings.proofs.Large.{from, left-pass, left-stop, left-none, one-fits}
 use Rattle.readings.proofs.first_large_from.Statement.{statement}
 use Rattle.readings.proofs.first_large_from.Tie as tie
 
 abbrev Inv-loop : tie.InvT-loop
 Inv-loop readings start n i₀ i =
-    (i ≤ n) × (n * 4 ≤ length readings) × (start + from readings start (n - start) ≡ i + from readings i (n - i))
+    (i ≤ n) × (n * readingLength ≤ length readings) × (start + from readings start (n - start) ≡ i + from readings i (n - i))
 
 abbrev μ-loop : tie.MeasureT-loop
 μ-loop readings start n i₀ i = n - i
@@ -18,22 +19,10 @@ abbrev μ-loop : tie.MeasureT-loop
 loop-holds : tie.Need-loop-holds Inv-loop μ-loop
 loop-holds c = (search needs, search needs, refl)
 
-mul-word32-at : tie.Need-mul-word32-at Inv-loop μ-loop
-mul-word32-at c = omega arith
-
-word32-at-requires : tie.Need-word32-at-requires Inv-loop μ-loop
-word32-at-requires c κs = omega arith
-
 returns : tie.Need-returns Inv-loop μ-loop
 returns c =
     let l = c .before .before .before .loop in
     sym (l .inv .2 ∙ left-stop _ (l .i) _ (omega arith) (rw (c .before .word32-at .ensures) at (c .if1 .taken)))
-
-add-i : tie.Need-add-i Inv-loop μ-loop
-add-i c = omega arith
-
-loop-less : tie.Need-loop-less Inv-loop μ-loop
-loop-less c = omega arith
 
 loop-again : tie.Need-loop-again Inv-loop μ-loop
 loop-again c =
@@ -55,10 +44,10 @@ first-large-from-spec =
     Inv-loop
     μ-loop
     loop-holds
-    mul-word32-at
-    word32-at-requires
+    (λ c. omega arith)
+    (λ c κs. omega arith)
     returns
-    add-i
-    loop-less
+    (λ c. omega arith)
+    (λ c. omega arith)
     loop-again
     returns-2)

@@ -1,38 +1,18 @@
 -- `slot_sum` meets its contract. Assumes nothing.
-use mathlib.Core.Path.{sym, _∙_}
+use mathlib.Core.Path.{_≡_, sym, _∙_}
+use Prim.Native.Nat.{ℕ, _≤_, _<_}
 use native.Mathlib.Omega.{arith}
+use lib.ListN.{length, getD}
 use borrow.Author.Needs.{needs}
-use Rattle.readings.specs.Readings.{reading}
+use Rattle.numbers.specs.Slots.{slotsOfDay, daysBack}
+use Rattle.readings.specs.Readings.{readingsLength, reading}
 use Rattle.readings.proofs.Sums.{four}
 use Rattle.readings.proofs.slot_sum.Statement.{statement}
 use Rattle.readings.proofs.slot_sum.Tie as tie
 
-array-read-reading-of : tie.Need-array-read-reading-of
-array-read-reading-of c = search needs
-
-reading-of-requires : tie.Need-reading-of-requires
-reading-of-requires c κs = let s = c .before in (s .pre .0, s .pre .2 _, s .pre .1)
-
-array-read-reading-of-2 : tie.Need-array-read-reading-of-2
-array-read-reading-of-2 c = search needs
-
-reading-of-requires-2 : tie.Need-reading-of-requires-2
-reading-of-requires-2 c κs = let s = c .before .before in (s .pre .0, s .pre .2 _, s .pre .1)
-
-array-read-reading-of-3 : tie.Need-array-read-reading-of-3
-array-read-reading-of-3 c = search needs
-
-reading-of-requires-3 : tie.Need-reading-of-requires-3
-reading-of-requires-3 c κs = let s = c .before .before .before in (s .pre .0, s .pre .2 _, s .pre .1)
-
-array-read-reading-of-4 : tie.Need-array-read-reading-of-4
-array-read-reading-of-4 c = search needs
-
-reading-of-requires-4 : tie.Need-reading-of-requires-4
-reading-of-requires-4 c κs = let s = c .before .before .before .before in (s .pre .0, s .pre .2 _, s .pre .1)
-
-sum4-requires : tie.Need-sum4-requires
-sum4-requires c κs = search needs
+-- what the reading on the k-th day asks
+asks : (s : tie.Start) (k : ℕ) → (length (s .args .readings .now) ≡ readingsLength) × (getD (s .args .t2) k 0 ≤ daysBack) × (s .args .slot < slotsOfDay)
+asks s k = (s .pre .0, s .pre .2 k, s .pre .1)
 
 returns : tie.Need-returns
 returns c =
@@ -45,13 +25,13 @@ pub slot-sum-spec : {M : Type 1} → statement M
 slot-sum-spec =
     tie.close
     (tie.spec
-    array-read-reading-of
-    reading-of-requires
-    array-read-reading-of-2
-    reading-of-requires-2
-    array-read-reading-of-3
-    reading-of-requires-3
-    array-read-reading-of-4
-    reading-of-requires-4
-    sum4-requires
+    (λ c. search needs)
+    (λ c κs. asks (c .before) 0)
+    (λ c. search needs)
+    (λ c κs. asks (c .before .before) 1)
+    (λ c. search needs)
+    (λ c κs. asks (c .before .before .before) 2)
+    (λ c. search needs)
+    (λ c κs. asks (c .before .before .before .before) 3)
+    (λ c κs. search needs)
     returns)

@@ -1,61 +1,27 @@
 -- `slot_sums` meets its contract. The invariant: the first j places hold their sums. Assumes nothing.
-use mathlib.Core.Path.{_≡_, refl, _∙_}
-use mathlib.Core.List.{List, map}
-use Prim.Native.Nat.{ℕ, _≤_, _-_}
+use mathlib.Core.Path.{refl}
+use Prim.Native.Nat.{_-_}
 use native.Mathlib.Omega.{arith}
-use lib.ListN.{length, replicate, length-set}
+use lib.ListN.{replicate}
 use borrow.Author.Needs.{needs}
-use Rattle.numbers.specs.Lists.{run, sum}
-use Rattle.numbers.proofs.Filling.{front, fill-more, fill-all}
-use Rattle.readings.specs.Readings.{reading, slotSums}
+use Rattle.numbers.specs.Slots.{windowSlots}
+use Rattle.numbers.proofs.Filling.{Filled, filled-none, filled-more, filled-all}
+use Rattle.readings.specs.Readings.{slotSum, slotSums}
 use Rattle.readings.proofs.slot_sums.Statement.{statement}
 use Rattle.readings.proofs.slot_sums.Tie as tie
 
--- a slot over some days
-abbrev over : List ℕ → List ℕ → ℕ → ℕ
-over readings days slot = sum (map (λ k. reading readings k slot) days)
-
 abbrev Inv-loop : tie.InvT-loop
-Inv-loop readings days slot sums₀ j₀ sums j =
-    (j ≤ 6) × (length sums ≡ 6) × (sums ≡ front (replicate 6 0) (run (over readings days) slot 6) j)
+Inv-loop readings days slot sums₀ j₀ sums j = Filled (replicate windowSlots 0) (slotSum readings days) slot windowSlots sums j
 
 abbrev μ-loop : tie.MeasureT-loop
-μ-loop readings days slot sums₀ j₀ sums j = 6 - j
-
-loop-holds : tie.Need-loop-holds Inv-loop μ-loop
-loop-holds c = (search needs, search needs, refl)
-
-add-slot-sum : tie.Need-add-slot-sum Inv-loop μ-loop
-add-slot-sum c = search needs
+μ-loop readings days slot sums₀ j₀ sums j = windowSlots - j
 
 slot-sum-requires : tie.Need-slot-sum-requires Inv-loop μ-loop
 slot-sum-requires c κs = let s = c .before .before .before in (s .pre .0, omega arith, s .pre .2)
 
-mul-sums : tie.Need-mul-sums Inv-loop μ-loop
-mul-sums c = search needs
-
-array-write-sums : tie.Need-array-write-sums Inv-loop μ-loop
-array-write-sums c = search needs
-
-add-j : tie.Need-add-j Inv-loop μ-loop
-add-j c = search needs
-
-loop-less : tie.Need-loop-less Inv-loop μ-loop
-loop-less c = search needs
-
-loop-again : tie.Need-loop-again Inv-loop μ-loop
-loop-again c =
-    let a = c .before .before .before .before .args in
-    let l = c .before .before .loop in
-    let f = over (a .readings .now) (a .days) in
-    (omega arith, length-set (l .sums) _ _ ∙ l .inv .1, rw (l .inv .2) (fill-more (replicate 6 0) f (a .slot) 6 refl (l .j) 0 _ (omega arith) (c .slot-sum .ensures)))
-
 returns : tie.Need-returns Inv-loop μ-loop
 unfolding slotSums
-returns c =
-    let a = c .before .before .before .args in
-    let l = c .before .loop in
-    l .inv .2 ∙ fill-all (replicate 6 0) (over (a .readings .now) (a .days)) (a .slot) 6 refl (l .j) (omega arith)
+returns c = filled-all (c .before .loop .inv) (omega arith)
 
 pub slot-sums-spec : {M : Type 1} → statement M
 slot-sums-spec =
@@ -63,12 +29,12 @@ slot-sums-spec =
     (tie.spec
     Inv-loop
     μ-loop
-    loop-holds
-    add-slot-sum
+    (λ c. filled-none refl)
+    (λ c. search needs)
     slot-sum-requires
-    mul-sums
-    array-write-sums
-    add-j
-    loop-less
-    loop-again
+    (λ c. search needs)
+    (λ c. search needs)
+    (λ c. search needs)
+    (λ c. search needs)
+    (λ c. filled-more (c .before .before .loop .inv) 0 _ (omega arith) (c .slot-sum .ensures))
     returns)

@@ -5,18 +5,6 @@ use Rattle.readings.proofs.Large.{join}
 use Rattle.readings.proofs.two_packed.Statement.{statement}
 use Rattle.readings.proofs.two_packed.Tie as tie
 
-one-packed-requires : tie.Need-one-packed-requires
-one-packed-requires c κs = search needs
-
-add-one-packed : tie.Need-add-one-packed
-add-one-packed c = search needs
-
-one-packed-requires-2 : tie.Need-one-packed-requires-2
-one-packed-requires-2 c κs = search needs
-
-beside-requires : tie.Need-beside-requires
-beside-requires c κs = search needs
-
 returns : tie.Need-returns
 returns c =
     let a = c .before .before .before .before .args in
@@ -28,4 +16,4 @@ returns c =
 pub two-packed-spec : {M : Type 1} → statement M
 two-packed-spec =
     tie.close
-    (tie.spec one-packed-requires add-one-packed one-packed-requires-2 beside-requires returns)
+    (tie.spec (λ c κs. search needs) (λ c. search needs) (λ c κs. search needs) (λ c κs. search needs) returns)

@@ -26,8 +26,8 @@ loop-again : tie.Need-loop-again Inv-loop μ-loop
 loop-again c =
     let l = c .before .before .loop in
     let s = c .before .before .before .before .args in
-    let e : c .signed-at .result ≡ signedIn (s .bytes .now) (0 + l .i) = c .signed-at .ensures ∙ rw zero-add refl in
-    (search needs, search needs, l .inv .2, rw (toZ-ofZ (sfits-of (c .signed-at .ok)), l .inv .3) (fill-more (s .places .now) (signedIn (s .bytes .now)) 0 (length (s .places .now)) refl (l .i) (pos 0) _ (omega arith) e))
+    let e : c .signed-word-at .result ≡ signedIn (s .bytes .now) (0 + l .i) = c .signed-word-at .ensures ∙ rw zero-add refl in
+    (search needs, search needs, l .inv .2, rw (toZ-ofZ (sfits-of (c .signed-word-at .ok)), l .inv .3) (fill-more (s .places .now) (signedIn (s .bytes .now)) 0 (length (s .places .now)) refl (l .i) (pos 0) _ (omega arith) e))
 
 returns : tie.Need-returns Inv-loop μ-loop
 returns c =

@@ -1,0 +1,14 @@
+-- Slots and days (document 01, 'What the ledger settles' and 'Days').
+use Prim.Native.Nat.{ℕ}
+
+-- 'A slot is a half-hour; slot i of a day, 0 to 47'
+abbrev pub slotsOfDay : ℕ
+slotsOfDay = 48
+
+-- 'Day k back, k from 1 to 30'
+abbrev pub daysBack : ℕ
+daysBack = 30
+
+-- 'The window is slots s to s+5'
+abbrev pub windowSlots : ℕ
+windowSlots = 6
