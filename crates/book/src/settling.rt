@@ -45,7 +45,7 @@ fn read_points(opened: State, book: &[u8], start: usize) -> Ending
         let end = from + size;
         let mut places = [0i64; 6];
         let added = ledger::add(state, tag, &book[from..end], &mut places);
-        if added.refusal != heads::refusals::ACCEPTED {
+        if added.refusal != refusals::ACCEPTED {
             return refused(added.refusal);
         }
         state = added.state;
@@ -53,10 +53,10 @@ fn read_points(opened: State, book: &[u8], start: usize) -> Ending
         due -= 1;
     }
     if at != book.len() {
-        return refused(fields::refusals::BYTES_AFTER);
+        return refused(refusals::BYTES_AFTER);
     }
     Ending {
-        refusal: heads::refusals::ACCEPTED,
+        refusal: refusals::ACCEPTED,
         state,
     }
 }
@@ -77,7 +77,7 @@ fn read(book: &[u8]) -> Ending
     let from = head_end + 3;
     let end = from + calendar_size;
     let opened = ledger::open(&book[3..head_end], &book[from..end]);
-    if opened.refusal != heads::refusals::ACCEPTED {
+    if opened.refusal != refusals::ACCEPTED {
         return refused(opened.refusal);
     }
     let state = opened.state;
@@ -89,7 +89,7 @@ pub fn close(ending: Ending) -> Closed
     ensures { λ r. ⌜ r ≡ closedAfter ending ⌝ }
 {
     let told = ending.refusal;
-    if told != heads::refusals::ACCEPTED {
+    if told != refusals::ACCEPTED {
         let figures = figures::closing::no_figures();
         return Closed {
             refusal: told,
@@ -164,16 +164,16 @@ pub fn settle(book: &[u8], result: &mut [u8]) -> u32
     ensures { λ _. ⌜ now (result .exit) ≡ settlingResult (now (book .entry)) (now (result .entry)) ⌝ }
 {
     if result.len() != RESULT_LENGTH {
-        return fields::refusals::LENT_BYTES;
+        return refusals::LENT_BYTES;
     }
     let ending = read(book);
     let closed = close(ending);
     let refusal = closed.refusal;
-    if refusal != heads::refusals::ACCEPTED {
+    if refusal != refusals::ACCEPTED {
         return refusal;
     }
     let figures = closed.figures;
     let words = words_of(figures);
     put_words(words, result);
-    heads::refusals::ACCEPTED
+    refusals::ACCEPTED
 }

@@ -1,16 +1,20 @@
 -- Eligible days (document 01, 'Days'). Day k back, k from 1 to 30, is k days before the test day, whose count is `test`.
 use mathlib.Core.Bool.{Bool, not, _&&_}
-use mathlib.Core.List.{List}
+use mathlib.Core.List.{List, [], _∷_}
 use Prim.Native.Nat.{ℕ, _-_}
 use lib.Dec.{leb, eqb}
 use lib.ListN.{getD}
-use Rattle.numbers.specs.Lists.{run, filter}
+use Rattle.numbers.specs.Lists.{run, filter, any}
 use Rattle.numbers.specs.Slots.{daysBack}
 use Rattle.calendar.specs.Dates.{isWeekend}
 
 -- 0 none; 1 national holiday; 2 earlier dispatch by the grid operator; 3 economic dispatch excluded on application
 abbrev pub isMark : ℕ → Bool
 isMark mark = leb mark 3
+
+-- 8: 'a mark above 3'
+abbrev pub markRow : List ℕ → List (Bool × ℕ)
+markRow marks = (any (λ mark. not (isMark mark)) marks, 8) ∷ []
 
 -- what thirty values, that of day 1 back first, have for day k back
 abbrev pub ofDay : List ℕ → ℕ → ℕ

@@ -1,13 +1,15 @@
 // Dates, their counts and weekdays, marks, eligible days.
 ghost use mathlib.Core.Path.{_≡_};
+ghost use mathlib.Core.List.{[], _∷_};
 ghost use mathlib.Core.Bool.{true, not, _&&_};
 ghost use Prim.Native.Nat.{_≤_};
 ghost use lib.Dec.{eqb};
-ghost use Rattle.numbers.specs.Lists.{run, any};
+ghost use Rattle.numbers.specs.Lists.{run};
+ghost use Rattle.numbers.specs.Refusals.{firstOf};
 ghost use Rattle.numbers.specs.Slots.{daysBack};
 ghost use Rattle.calendar.specs.Dates.{firstDay, lastDay, IsMonth, isLeap, daysIn, commonDaysBefore, daysBefore, isDate};
 ghost use Rattle.calendar.specs.Dates.{dayCount, isWeekend};
-ghost use Rattle.calendar.specs.Eligible.{isMark, isEligible};
+ghost use Rattle.calendar.specs.Eligible.{markRow, isEligible};
 use numbers::DAYS_BACK;
 
 // The days before each month of a common year: the fixed table of document 01, 'Days'.
@@ -93,28 +95,29 @@ pub fn is_weekend(count: u32) -> bool
     count % 7 <= 1
 }
 
-// Whether the mark is one of the four.
-pub fn is_mark(mark: u8) -> bool
-    ensures { λ r. ⌜ r ≡ isMark mark ⌝ }
+// A mark that is none of the four.
+fn mark_refusal(mark: u8) -> u32
+    ensures { λ r. ⌜ r ≡ firstOf (markRow (mark ∷ [])) ⌝ }
 {
     match mark {
-        NO_MARK | NATIONAL_HOLIDAY | EARLIER_DISPATCH | ECONOMIC_DISPATCH => true,
-        _ => false,
+        NO_MARK | NATIONAL_HOLIDAY | EARLIER_DISPATCH | ECONOMIC_DISPATCH => refusals::ACCEPTED,
+        _ => refusals::MARK,
     }
 }
 
-// Whether one of the marks is none of the four.
-pub fn has_unknown_mark(marks: &[u8]) -> bool
-    ensures { λ r. ⌜ r ≡ any (λ mark. not (isMark mark)) (now (marks .entry)) ⌝ }
+// Marks of which one is none of the four.
+pub fn marks_refusal(marks: &[u8]) -> u32
+    ensures { λ r. ⌜ r ≡ firstOf (markRow (now (marks .entry))) ⌝ }
 {
     let mut k: usize = 0;
     while k < marks.len() {
-        if !is_mark(marks[k]) {
-            return true;
+        let refusal = mark_refusal(marks[k]);
+        if refusal != refusals::ACCEPTED {
+            return refusal;
         }
         k += 1;
     }
-    false
+    refusals::ACCEPTED
 }
 
 // Whether a day is eligible, by its count and its mark.

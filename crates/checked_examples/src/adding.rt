@@ -8,7 +8,7 @@ fn add(state: State, value: &[u8]) {
     let mut places = [0i64; 6];
     let added = ledger::add(state, points::CONSUMER, value, &mut places);
     let refusal = added.refusal;
-    if refusal == heads::refusals::ACCEPTED {
+    if refusal == refusals::ACCEPTED {
         text::results(&places);
     } else {
         text::refusal(refusal);

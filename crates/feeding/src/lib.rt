@@ -66,7 +66,7 @@ pub fn start() -> Progress
         wait: Wait::Header(Due::Head),
         head: [0; 17],
         state,
-        refusal: heads::refusals::ACCEPTED,
+        refusal: refusals::ACCEPTED,
     }
 }
 
@@ -100,7 +100,7 @@ fn point_or_end(state: State) -> Wait
 fn go_on(refusal: u32, state: State, progress: Progress) -> Progress
     ensures { λ r. ⌜ r ≡ going refusal state progress ⌝ }
 {
-    if refusal != heads::refusals::ACCEPTED {
+    if refusal != refusals::ACCEPTED {
         return refused_at(refusal, progress);
     }
     let wait = point_or_end(state);
@@ -109,7 +109,7 @@ fn go_on(refusal: u32, state: State, progress: Progress) -> Progress
         wait,
         head,
         state,
-        refusal: heads::refusals::ACCEPTED,
+        refusal: refusals::ACCEPTED,
     }
 }
 
@@ -117,7 +117,7 @@ fn feed_header(kind: Due, progress: Progress, bytes: &[u8]) -> Progress
     ensures { λ r. ⌜ r ≡ headerFed kind progress (now (bytes .entry)) ⌝ }
 {
     let refusal = fields::cutting::header_refusal(kind, bytes);
-    if refusal != heads::refusals::ACCEPTED {
+    if refusal != refusals::ACCEPTED {
         return refused_at(refusal, progress);
     }
     let head = progress.head;
@@ -126,7 +126,7 @@ fn feed_header(kind: Due, progress: Progress, bytes: &[u8]) -> Progress
         wait: Wait::Value(kind, bytes[0]),
         head,
         state,
-        refusal: heads::refusals::ACCEPTED,
+        refusal: refusals::ACCEPTED,
     }
 }
 
@@ -154,7 +154,7 @@ fn got_head(progress: Progress, value: &[u8]) -> Progress
         wait: Wait::Header(Due::Calendar),
         head,
         state,
-        refusal: heads::refusals::ACCEPTED,
+        refusal: refusals::ACCEPTED,
     }
 }
 
@@ -184,7 +184,7 @@ fn feed_value(kind: Due, tag: u8, progress: Progress, bytes: &[u8]) -> Progress
 {
     let size = fields::cutting::length_due(kind, tag);
     if bytes.len() < size {
-        return refused_at(fields::refusals::BOOK_CUT, progress);
+        return refused_at(refusals::BOOK_CUT, progress);
     }
     match kind {
         Due::Head => got_head(progress, &bytes[0..size]),
@@ -197,7 +197,7 @@ fn feed_end(progress: Progress, bytes: &[u8]) -> Progress
     ensures { λ r. ⌜ r ≡ endFed progress (now (bytes .entry)) ⌝ }
 {
     if bytes.len() != 0 {
-        return refused_at(fields::refusals::BYTES_AFTER, progress);
+        return refused_at(refusals::BYTES_AFTER, progress);
     }
     let head = progress.head;
     let state = progress.state;
@@ -205,7 +205,7 @@ fn feed_end(progress: Progress, bytes: &[u8]) -> Progress
         wait: Wait::Nothing,
         head,
         state,
-        refusal: heads::refusals::ACCEPTED,
+        refusal: refusals::ACCEPTED,
     }
 }
 

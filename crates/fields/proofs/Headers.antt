@@ -1,57 +1,49 @@
 -- A field's header: what its tests tell, and what one that is not refused shows. Assumes nothing.
-use mathlib.Core.Path.{_≡_}
-use mathlib.Core.Bool.{true, false, cond, _&&_, and-false}
+use mathlib.Core.Path.{_≡_, refl}
+use mathlib.Core.Bool.{Bool, true, false, cond, not, _&&_, and-false}
 use mathlib.Core.List.{List}
-use Prim.Native.Nat.{ℕ, _≤_, _<_}
+use Prim.Native.Nat.{ℕ, _≤_}
 use native.Mathlib.Omega.{arith}
-use borrow.Author.Tests.{ltb-false, eqb-true, not-false, lt-ltb, le-ltb, eq-eqb, ne-eqb}
+use borrow.Author.Tests.{ltb-false, eqb-true, not-false, le-ltb, eq-eqb, ne-eqb}
 use lib.Dec.{T, eqb}
 use lib.ListN.{length}
 use Rattle.numbers.specs.Words.{word16}
+use Rattle.numbers.specs.Refusals.{firstOf}
 use Rattle.numbers.proofs.Refusals.{numbered, clear}
-use Rattle.points.specs.Points.{Kind, consumer, generator, unknown, kindOf, sizeOf}
-use Rattle.fields.specs.Fields.{tagAt, isTag, isPoint, lengthDue, headerTests, headerRefusal}
+use Rattle.points.specs.Points.{consumerLength, kindOf, isUnknown, tagRow}
+use Rattle.points.proofs.PointKinds.{kind-small}
+use Rattle.fields.specs.Fields.{headerLength, lengthAt, tagAt, isTag, isPoint, lengthDue, dueTagRow, headerTests, headerRefusal}
 use Rattle.fields.specs.declared.Due.{Due}
 use Rattle.fields.specs.declared.Due.the-variants.{Head, Calendar, Point}
 
--- ---- the lengths of values
-
-pub kind-small : (kind : Kind) → sizeOf kind ≤ 5975
-kind-small consumer = omega arith
-kind-small generator = omega arith
-kind-small unknown = omega arith
-
-pub length-small : (due : Due) (tag : ℕ) → lengthDue due tag ≤ 5975
+-- no value is longer than a consumer
+pub length-small : (due : Due) (tag : ℕ) → lengthDue due tag ≤ consumerLength
 length-small Head tag = omega arith
 length-small Calendar tag = omega arith
 length-small Point tag = kind-small (kindOf tag)
 
--- ---- what the tests tell
+-- ---- what the rows tell
 
 pub some-bytes : (due : Due) (n : ℕ) → (n ≡ 0 → ⊥) → (isPoint due && eqb n 0) ≡ false
 some-bytes due n h = rw (ne-eqb n 0 h) (and-false (isPoint due))
 
-module _ (due : Due) (left : List ℕ) where
-  pub header-short : length left < 3 → headerRefusal due left ≡ cond (isPoint due && eqb (length left) 0) 20 31
-  unfolding headerRefusal
-  header-short h = simp (lt-ltb _ _ h)
+-- where a point is due, its tag is tested as adding does
+pub point-tag : (tag : ℕ) → firstOf (tagRow tag) ≡ firstOf (dueTagRow Point tag)
+point-tag tag = go (isUnknown (kindOf tag))
+  where
+    go : (b : Bool) → cond {A = ℕ} b 11 0 ≡ cond (not (not b)) 11 0
+    go true = refl
+    go false = refl
 
-  module _ (h : 3 ≤ length left) where
-    some-left : (isPoint due && eqb (length left) 0) ≡ false
-    some-left = some-bytes due (length left) (omega arith)
+pub numbered-tag : (due : Due) (tag : ℕ) → T (numbered (dueTagRow due tag))
+numbered-tag Head tag = tt
+numbered-tag Calendar tag = tt
+numbered-tag Point tag = tt
 
-    pub header-tag : isTag due (tagAt left) ≡ false → headerRefusal due left ≡ cond (isPoint due) 11 41
-    unfolding headerRefusal
-    header-tag t = simp (some-left, le-ltb _ _ h, t)
-
-    pub header-length : isTag due (tagAt left) ≡ true → (word16 left 1 ≡ lengthDue due (tagAt left) → ⊥)
-        → headerRefusal due left ≡ cond (isPoint due) 12 1
-    unfolding headerRefusal
-    header-length t n = simp (some-left, le-ltb _ _ h, t, ne-eqb _ _ n)
-
-    pub header-good : isTag due (tagAt left) ≡ true → word16 left 1 ≡ lengthDue due (tagAt left) → headerRefusal due left ≡ 0
-    unfolding headerRefusal
-    header-good t n = simp (some-left, le-ltb _ _ h, t, eq-eqb _ _ n)
+pub header-good : (due : Due) (left : List ℕ) → headerLength ≤ length left → isTag due (tagAt left) ≡ true
+    → word16 left lengthAt ≡ lengthDue due (tagAt left) → headerRefusal due left ≡ 0
+unfolding headerRefusal
+header-good due left h t n = simp (some-bytes due (length left) (λ z. omega arith), le-ltb _ _ h, t, eq-eqb _ _ n)
 
 -- ---- what a header that is not refused shows
 
@@ -61,9 +53,9 @@ numbered-header Calendar left = tt
 numbered-header Point left = tt
 
 pub record Header (due : Due) (left : List ℕ) : Type 0 where
-  pub long : 3 ≤ length left
+  pub long : headerLength ≤ length left
   pub tag : isTag due (tagAt left) ≡ true
-  pub size : word16 left 1 ≡ lengthDue due (tagAt left)
+  pub size : word16 left lengthAt ≡ lengthDue due (tagAt left)
 
 pub header-shows : (due : Due) (left : List ℕ) → headerRefusal due left ≡ 0 → Header due left
 unfolding headerRefusal

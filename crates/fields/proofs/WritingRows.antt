@@ -13,7 +13,7 @@ use Rattle.numbers.proofs.Refusals.{untold, told, passed}
 use Rattle.points.specs.Points.{kindOf, sizeOf, numberOf, formRows, numberRow, valueRows}
 use Rattle.fields.specs.Fields.{written}
 use Rattle.fields.specs.Writing.{roomRow, valueWritingTests, valueWritingRefusal, pointWritingRefusal, pointWritingOut}
-use Rattle.fields.proofs.Headers.{kind-small}
+use Rattle.points.proofs.PointKinds.{kind-small}
 
 module _ (tag : ℕ) (value : List ℕ) where
   -- ---- the rows

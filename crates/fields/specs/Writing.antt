@@ -6,21 +6,25 @@ use lib.Dec.{ltb, eqb}
 use lib.ListN.{length}
 use Rattle.numbers.specs.Refusals.{firstOf}
 use Rattle.numbers.specs.Placing.{atFront}
-use Rattle.heads.specs.Heads.{openingTests}
+use Rattle.heads.specs.Heads.{headTag, calendarTag, openingTests}
 use Rattle.points.specs.Points.{numberOf, formRows, numberRow, valueRows}
-use Rattle.fields.specs.Fields.{written}
+use Rattle.fields.specs.Fields.{headerLength, written}
 
 -- '40: too few bytes'
 abbrev pub roomRow : ℕ → ℕ → List (Bool × ℕ)
 roomRow room size = (ltb room size, 40) ∷ []
 
--- A HEAD with its calendar: 53 bytes
+-- A HEAD with its calendar
 abbrev pub writtenHead : List ℕ → List ℕ → List ℕ
-writtenHead head calendar = written 1 head ++ written 2 calendar
+writtenHead head calendar = written headTag head ++ written calendarTag calendar
+
+-- '53 bytes'
+abbrev pub headRoom : ℕ
+headRoom = 53
 
 -- 'A head: 1 to 8. Then 40: too few bytes.'
 abbrev pub headWritingTests : List ℕ → List ℕ → ℕ → List (Bool × ℕ)
-headWritingTests head calendar room = openingTests head calendar ++ roomRow room 53
+headWritingTests head calendar room = openingTests head calendar ++ roomRow room headRoom
 
 unfoldable pub headWritingRefusal : List ℕ → List ℕ → ℕ → ℕ
 headWritingRefusal head calendar room = firstOf (headWritingTests head calendar room)
@@ -34,7 +38,7 @@ abbrev pub valueWritingTests : ℕ → List ℕ → List (Bool × ℕ)
 valueWritingTests tag value = formRows tag (length value) ++ numberRow (numberOf value) ++ valueRows tag value
 
 abbrev pub pointWritingTests : ℕ → List ℕ → ℕ → List (Bool × ℕ)
-pointWritingTests tag value room = valueWritingTests tag value ++ roomRow room (3 + length value)
+pointWritingTests tag value room = valueWritingTests tag value ++ roomRow room (headerLength + length value)
 
 unfoldable pub valueWritingRefusal : ℕ → List ℕ → ℕ
 valueWritingRefusal tag value = firstOf (valueWritingTests tag value)

@@ -1,76 +1,97 @@
 // Cutting a field off the front of what is left of the book.
 ghost use mathlib.Core.Path.{_≡_};
-ghost use mathlib.Core.Bool.{Bool, cond, not, _&&_};
-ghost use Prim.Native.Nat.{ℕ, _≤_};
-ghost use lib.Dec.{eqb};
-ghost use Rattle.fields.specs.Fields.{isTag, isPoint, lengthDue, headerRefusal, fieldOf, refusalOf};
+ghost use Prim.Native.Nat.{_≤_};
+ghost use Rattle.numbers.specs.Refusals.{firstOf};
+ghost use Rattle.points.specs.Points.{consumerLength};
+ghost use Rattle.fields.specs.Fields.{lengthDue, shortRows, dueTagRow, dueLengthRow, headerRefusal, fieldOf, refusalOf};
+ghost use Rattle.fields.specs.declared.Due.the-variants.{Head, Calendar};
 use crate::Due;
 use crate::Field;
-use crate::refusals;
+use crate::HEADER_LENGTH;
+
+// Where a header's length begins.
+const LENGTH_AT: usize = 1;
 
 // The number of a field answer.
 pub fn refusal_of(field: Field) -> u32
     ensures { λ r. ⌜ r ≡ refusalOf field ⌝ }
 {
     match field {
-        Field::Value(_, _) => heads::refusals::ACCEPTED,
+        Field::Value(_, _) => refusals::ACCEPTED,
         Field::Refused(refusal) => refusal,
-    }
-}
-
-// Whether a tag may stand where a field is due.
-fn is_tag(due: Due, tag: u8) -> bool
-    ensures { λ r. ⌜ r ≡ isTag due tag ⌝ }
-{
-    match due {
-        Due::Head => tag == 1,
-        Due::Calendar => tag == 2,
-        Due::Point => !points::is_unknown_tag(tag),
     }
 }
 
 // The length that a value must have.
 pub fn length_due(due: Due, tag: u8) -> usize
-    ensures { λ r. ⌜ (r ≡ lengthDue due tag) × (r ≤ 5975) ⌝ }
+    ensures { λ r. ⌜ (r ≡ lengthDue due tag) × (r ≤ consumerLength) ⌝ }
 {
     match due {
-        Due::Head => 17,
-        Due::Calendar => 30,
+        Due::Head => heads::HEAD_LENGTH,
+        Due::Calendar => heads::CALENDAR_LENGTH,
         Due::Point => points::value_length(tag),
     }
 }
 
 // Under three bytes left; none where a point is due is a count that is not reached.
-fn short_refusal(due: Due, length: usize) -> u32
-    ensures { λ r. ⌜ r ≡ cond (isPoint due && eqb length 0) 20 31 ⌝ }
+fn short_refusal(due: Due, left: usize) -> u32
+    ensures { λ r. ⌜ r ≡ firstOf (shortRows due left) ⌝ }
 {
-    if length != 0 {
+    if HEADER_LENGTH <= left {
+        return refusals::ACCEPTED;
+    }
+    if left != 0 {
         return refusals::BOOK_CUT;
     }
     match due {
         Due::Head => refusals::BOOK_CUT,
         Due::Calendar => refusals::BOOK_CUT,
-        Due::Point => heads::refusals::COUNT_NOT_REACHED,
+        Due::Point => refusals::COUNT_NOT_REACHED,
     }
 }
 
-fn tag_refusal(due: Due) -> u32
-    ensures { λ r. ⌜ r ≡ cond (isPoint due) 11 41 ⌝ }
+// A tag that may not stand where a head is due.
+fn head_tag_refusal(tag: u8) -> u32
+    ensures { λ r. ⌜ r ≡ firstOf (dueTagRow Head tag) ⌝ }
 {
-    match due {
-        Due::Head => refusals::WRONG_TAG,
-        Due::Calendar => refusals::WRONG_TAG,
-        Due::Point => heads::refusals::POINT_TAG,
+    match tag {
+        heads::HEAD_TAG => refusals::ACCEPTED,
+        _ => refusals::WRONG_TAG,
     }
 }
 
-fn length_refusal(due: Due) -> u32
-    ensures { λ r. ⌜ r ≡ cond (isPoint due) 12 1 ⌝ }
+// A tag that may not stand where a calendar is due.
+fn calendar_tag_refusal(tag: u8) -> u32
+    ensures { λ r. ⌜ r ≡ firstOf (dueTagRow Calendar tag) ⌝ }
+{
+    match tag {
+        heads::CALENDAR_TAG => refusals::ACCEPTED,
+        _ => refusals::WRONG_TAG,
+    }
+}
+
+// A tag that may not stand where a field is due.
+fn tag_refusal(due: Due, tag: u8) -> u32
+    ensures { λ r. ⌜ r ≡ firstOf (dueTagRow due tag) ⌝ }
 {
     match due {
-        Due::Head => heads::refusals::HEAD_LENGTH,
-        Due::Calendar => heads::refusals::HEAD_LENGTH,
-        Due::Point => heads::refusals::POINT_LENGTH,
+        Due::Head => head_tag_refusal(tag),
+        Due::Calendar => calendar_tag_refusal(tag),
+        Due::Point => points::tag_refusal(tag),
+    }
+}
+
+// A length that is not the one due.
+fn length_refusal(due: Due, tag: u8, size: usize) -> u32
+    ensures { λ r. ⌜ r ≡ firstOf (dueLengthRow due tag size) ⌝ }
+{
+    if size == length_due(due, tag) {
+        return refusals::ACCEPTED;
+    }
+    match due {
+        Due::Head => refusals::HEAD_LENGTH,
+        Due::Calendar => refusals::HEAD_LENGTH,
+        Due::Point => refusals::POINT_LENGTH,
     }
 }
 
@@ -78,18 +99,16 @@ fn length_refusal(due: Due) -> u32
 pub fn header_refusal(due: Due, left: &[u8]) -> u32
     ensures { λ r. ⌜ r ≡ headerRefusal due (now (left .entry)) ⌝ }
 {
-    if left.len() < 3 {
-        return short_refusal(due, left.len());
+    let short = short_refusal(due, left.len());
+    if short != refusals::ACCEPTED {
+        return short;
     }
     let tag = left[0];
-    if !is_tag(due, tag) {
-        return tag_refusal(due);
+    let wrong = tag_refusal(due, tag);
+    if wrong != refusals::ACCEPTED {
+        return wrong;
     }
-    let size = length_due(due, tag);
-    if numbers::word16_at(left, 1) as usize != size {
-        return length_refusal(due);
-    }
-    heads::refusals::ACCEPTED
+    length_refusal(due, tag, numbers::word16_at(left, LENGTH_AT) as usize)
 }
 
 // The field answer.
@@ -97,12 +116,12 @@ pub fn cut(due: Due, left: &[u8]) -> Field
     ensures { λ r. ⌜ r ≡ fieldOf due (now (left .entry)) ⌝ }
 {
     let refusal = header_refusal(due, left);
-    if refusal != heads::refusals::ACCEPTED {
+    if refusal != refusals::ACCEPTED {
         return Field::Refused(refusal);
     }
     let tag = left[0];
     let size = length_due(due, tag);
-    if left.len() < 3 + size {
+    if left.len() < HEADER_LENGTH + size {
         return Field::Refused(refusals::BOOK_CUT);
     }
     Field::Value(tag, size)

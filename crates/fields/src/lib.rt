@@ -1,7 +1,9 @@
 // Fields: cutting one off the front of a book, and writing one.
 pub mod cutting;
-pub mod refusals;
 pub mod writing;
+
+// The bytes of a field's header: a tag, and a length of two bytes.
+pub const HEADER_LENGTH: usize = 3;
 
 // Which field is due at a place of the book.
 pub enum Due {

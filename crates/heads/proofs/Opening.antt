@@ -8,9 +8,9 @@ use lib.ListN.{length, getD}
 use mir.Facts.{and-yes, leb-yes, eqb-yes}
 use borrow.Author.Tests.{ltb-false, not-false}
 use Rattle.numbers.proofs.Filling.{any-none}
-use Rattle.numbers.proofs.Refusals.{testOf, untold, Within, within, clear-zero}
-use Rattle.heads.specs.Limits.{earliestSlot, latestSlot, mostLoss, mostPoints}
-use Rattle.heads.specs.Heads.{headOf, contentTests, contentRefusal, openingTests, openingRefusal}
+use Rattle.numbers.proofs.Refusals.{testOf, untold, both-accepted}
+use Rattle.heads.specs.Limits.{earliestSlot, latestSlot, mostLoss, leastPoints, mostPoints}
+use Rattle.heads.specs.Heads.{headLength, calendarLength, headOf, counts, contentTests, contentRefusal, lengthsRow, openingTests, openingRefusal}
 use Rattle.heads.specs.declared.Head.{Head}
 
 -- a row's test, which tells what is wrong, as a fact
@@ -30,9 +30,9 @@ pub record Opens (h : Head) : Type 0 where
 pub opens : (h : Head) (marks : List ℕ) → contentRefusal h marks ≡ 0 → Opens h
 unfolding contentRefusal
 opens h marks e =
-    let c = untold (contentTests h marks) tt e in
+    let c = untold (contentTests counts h marks) tt e in
     let slots = both (leb earliestSlot (h .slot)) (leb (h .slot) latestSlot) (c 4) in
-    let points = both (leb 1 (h .count)) (leb (h .count) mostPoints) (c 7) in
+    let points = both (leb leastPoints (h .count)) (leb (h .count) mostPoints) (c 7) in
     record {
       first-slot = leb-yes (slots .0);
       last-slot = leb-yes (slots .1);
@@ -46,14 +46,12 @@ module _ (head calendar : List ℕ) (accepted : openingRefusal head calendar ≡
   unfolding openingRefusal
   opening-untold = untold (openingTests head calendar) tt accepted
 
-  pub opening-lengths : (length head ≡ 17) × (length calendar ≡ 30)
+  pub opening-lengths : (length head ≡ headLength) × (length calendar ≡ calendarLength)
   opening-lengths =
-      let t = both (eqb (length head) 17) (eqb (length calendar) 30) (opening-untold 1) in
+      let t = both (eqb (length head) headLength) (eqb (length calendar) calendarLength) (opening-untold 1) in
       (eqb-yes (t .0), eqb-yes (t .1))
 
   pub opening-content : contentRefusal (headOf head) calendar ≡ 0
-  unfolding contentRefusal
+  unfolding openingRefusal contentRefusal
   opening-content =
-      let rows = contentTests (headOf head) calendar in
-      let w : Within rows (openingTests head calendar) = (refl, (refl, (refl, (refl, (refl, (refl, (refl, tt))))))) in
-      clear-zero rows (within rows (openingTests head calendar) w opening-untold)
+      both-accepted (lengthsRow head calendar) (contentTests counts (headOf head) calendar) tt accepted .1

@@ -19,12 +19,23 @@ leastContract = 1_000
 abbrev pub mostContract : ℕ
 mostContract = 10_000_000
 
+-- of a list
+abbrev pub leastPoints : ℕ
+leastPoints = 1
+
 abbrev pub mostPoints : ℕ
 mostPoints = 10_000
 
 -- Wh, of one slot result on either side of zero
 abbrev pub mostResult : ℕ
 mostResult = 4_000_000_000
+
+-- the voltage classes of consumers: 1 low, 2 high, 3 extra-high
+abbrev pub lowClass : ℕ
+lowClass = 1
+
+abbrev pub extraHighClass : ℕ
+extraHighClass = 3
 
 -- kW, of a generator
 abbrev pub mostBaseline : ℕ

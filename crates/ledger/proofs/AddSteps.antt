@@ -18,7 +18,7 @@ use Rattle.ledger.specs.declared.State.{State}
 use Rattle.results.specs.Steps.{foundOf}
 use Rattle.results.specs.declared.Found.{Found}
 use Rattle.heads.proofs.Opening.{opens}
-use Rattle.points.proofs.Forms.{known-length}
+use Rattle.points.proofs.PointKinds.{known-length}
 use Rattle.ledger.proofs.Taking.{Given, given, result-small}
 use Rattle.ledger.proofs.Sound.{Sound, sound, sound-is, total-small}
 

@@ -4,7 +4,6 @@ ghost use Rattle.numbers.specs.Refusals.{firstOf};
 ghost use Rattle.ledger.specs.Operations.{numberRows, stateRows, earlyRefusal};
 use crate::State;
 use crate::states;
-use heads::refusals;
 
 // A number that is not allowed, or not above the last one; the first point has none before it.
 fn number_refusal(number: &[u8], points: u32, last: [u8; 22]) -> u32

@@ -8,7 +8,6 @@ pub mod states;
 
 use figures::Figures;
 use heads::Head;
-use heads::refusals;
 
 // The settlement state. It goes in and comes back by value, and no field of it is trusted.
 pub struct State {

@@ -1,13 +1,15 @@
 -- Points (document 01, 'The test book'): consumers, tag 3, and generators, tag 4.
 use mathlib.Core.Bool.{Bool, true, false, cond, not, _&&_}
 use mathlib.Core.List.{List, [], _∷_, _++_}
-use Prim.Native.Nat.{ℕ}
+use Prim.Native.Nat.{ℕ, _+_}
 use lib.Dec.{leb, ltb, eqb}
 use lib.ListN.{getD, take, drop}
 use Rattle.numbers.specs.Words.{word32}
-use Rattle.numbers.specs.PointNumbers.{isNumber}
+use Rattle.numbers.specs.PointNumbers.{numberLength, isNumber}
+use Rattle.numbers.specs.Slots.{windowSlots}
 use Rattle.readings.specs.Readings.{firstLarge}
-use Rattle.heads.specs.Limits.{mostBaseline}
+use Rattle.readings.specs.Readings as readings
+use Rattle.heads.specs.Limits.{lowClass, extraHighClass, mostBaseline}
 
 -- a point: its tag and its value
 pub record Point : Type 0 where
@@ -18,47 +20,76 @@ pub record Point : Type 0 where
 pub data Kind : Type 0 where
   consumer generator unknown : Kind
 
+abbrev pub consumerTag : ℕ
+consumerTag = 3
+
+abbrev pub generatorTag : ℕ
+generatorTag = 4
+
 abbrev pub kindOf : ℕ → Kind
-kindOf tag = cond (eqb tag 3) consumer (cond (eqb tag 4) generator unknown)
+kindOf tag = cond (eqb tag consumerTag) consumer (cond (eqb tag generatorTag) generator unknown)
 
 abbrev pub isUnknown : Kind → Bool
 isUnknown consumer = false
 isUnknown generator = false
 isUnknown unknown = true
 
--- the bytes of a value: the point number's 22, class 1 and 1,488 readings of 4; or the number's 22, baseline kW 4 and six readings of 4
+-- 'Tag 3, consumer, 5,975 bytes: point number, class, 1,488 readings of 4 bytes'
+abbrev pub consumerLength : ℕ
+consumerLength = 5_975
+
+-- 'Tag 4, generator, 50 bytes: point number, baseline kW 4, six readings of 4'
+abbrev pub generatorLength : ℕ
+generatorLength = 50
+
 abbrev pub sizeOf : Kind → ℕ
-sizeOf consumer = 5975
-sizeOf generator = 50
+sizeOf consumer = consumerLength
+sizeOf generator = generatorLength
 sizeOf unknown = 0
 
-abbrev pub numberOf : List ℕ → List ℕ
-numberOf value = take 22 value
+-- where the parts of a value behind its number begin
+abbrev pub classAt : ℕ
+classAt = numberLength
 
--- 1 low, 2 high, 3 extra-high
+abbrev pub consumerReadingsAt : ℕ
+consumerReadingsAt = classAt + 1
+
+abbrev pub baselineAt : ℕ
+baselineAt = numberLength
+
+abbrev pub generatorReadingsAt : ℕ
+generatorReadingsAt = baselineAt + 4
+
+abbrev pub numberOf : List ℕ → List ℕ
+numberOf value = take numberLength value
+
 abbrev pub classOf : List ℕ → ℕ
-classOf value = getD value 22 0
+classOf value = getD value classAt 0
+
+-- '1 low, 2 high, 3 extra-high'
+abbrev pub isClass : ℕ → Bool
+isClass class = leb lowClass class && leb class extraHighClass
 
 abbrev pub baselineOf : List ℕ → ℕ
-baselineOf value = word32 value 22
+baselineOf value = word32 value baselineAt
 
 abbrev pub readingsOf : Kind → List ℕ → List ℕ
-readingsOf consumer value = drop 23 value
-readingsOf generator value = drop 26 value
+readingsOf consumer value = drop consumerReadingsAt value
+readingsOf generator value = drop generatorReadingsAt value
 readingsOf unknown value = []
 
 abbrev pub readingCount : Kind → ℕ
-readingCount consumer = 1488
-readingCount generator = 6
+readingCount consumer = readings.readingCount
+readingCount generator = windowSlots
 readingCount unknown = 0
 
--- 16: 'class not 1 to 3, or baseline above 1,000,000'
+-- a class or a baseline that is not allowed
 abbrev pub isUnfit : Kind → List ℕ → Bool
-isUnfit consumer value = not (leb 1 (classOf value) && leb (classOf value) 3)
+isUnfit consumer value = not (isClass (classOf value))
 isUnfit generator value = ltb mostBaseline (baselineOf value)
 isUnfit unknown value = false
 
--- 17: 'any reading above 1,000,000,000, used or not'
+-- a reading above the limit
 abbrev pub hasLarge : Kind → List ℕ → Bool
 hasLarge kind value = ltb (firstLarge (readingsOf kind value) (readingCount kind)) (readingCount kind)
 
@@ -80,11 +111,17 @@ formRows tag size = tagRow tag ++ lengthRow tag size
 abbrev pub numberRow : List ℕ → List (Bool × ℕ)
 numberRow number = (not (isNumber number), 14) ∷ []
 
--- 16
+-- 16: 'class not 1 to 3, or baseline above 1,000,000'
+abbrev pub classRow : ℕ → List (Bool × ℕ)
+classRow class = (not (isClass class), 16) ∷ []
+
+abbrev pub baselineRow : ℕ → List (Bool × ℕ)
+baselineRow kW = (ltb mostBaseline kW, 16) ∷ []
+
 abbrev pub unfitRow : ℕ → List ℕ → List (Bool × ℕ)
 unfitRow tag value = (isUnfit (kindOf tag) value, 16) ∷ []
 
--- 17
+-- 17: 'any reading above 1,000,000,000, used or not'
 abbrev pub largeRow : ℕ → List ℕ → List (Bool × ℕ)
 largeRow tag value = (hasLarge (kindOf tag) value, 17) ∷ []
 

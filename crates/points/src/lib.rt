@@ -1,29 +1,54 @@
 // Points: the tests of a point's value that need no state, and its number.
 ghost use mathlib.Core.Path.{_≡_};
-ghost use mathlib.Core.Bool.{true, false, not, _&&_};
-ghost use mathlib.Core.List.{List, [], _∷_};
-ghost use Prim.Native.Nat.{ℕ, _<_, _≤_, _-_};
-ghost use lib.Dec.{leb, eqb};
+ghost use Prim.Native.Nat.{_≤_, _-_};
 ghost use lib.ListN.{length, getD};
 ghost use Rattle.numbers.specs.Refusals.{firstOf};
-ghost use Rattle.points.specs.Points.{kindOf, isUnknown, sizeOf, numberOf, isUnfit, hasLarge, formRows, valueRows};
-use heads::refusals;
+ghost use Rattle.heads.specs.Limits.{lowClass, extraHighClass};
+ghost use Rattle.numbers.specs.PointNumbers.{numberLength};
+ghost use Rattle.points.specs.Points.{kindOf, sizeOf, numberOf, hasLarge};
+ghost use Rattle.points.specs.Points.{tagRow, formRows, classRow, baselineRow, unfitRow, valueRows};
+use numbers::NUMBER_LENGTH;
+use numbers::WINDOW_SLOTS;
 
+// The tags of points, and the lengths of their values (specs/Points).
 pub const CONSUMER: u8 = 3;
 
 pub const GENERATOR: u8 = 4;
+
+const CONSUMER_LENGTH: usize = 5975;
+
+const GENERATOR_LENGTH: usize = 50;
+
+// The readings of a consumer.
+const CONSUMER_READINGS: usize = 1488;
+
+// Where the parts of a value behind its number begin.
+pub const CLASS_AT: usize = 22;
+
+pub const CONSUMER_READINGS_AT: usize = 23;
+
+pub const BASELINE_AT: usize = 22;
+
+pub const GENERATOR_READINGS_AT: usize = 26;
+
+// The voltage classes of consumers.
+const LOW: u8 = 1;
+
+const HIGH: u8 = 2;
+
+const EXTRA_HIGH: u8 = 3;
 
 // The kW that a generator's baseline may reach.
 const MOST_BASELINE: u32 = 1000000;
 
 // A tag of no kind of point.
-pub fn is_unknown_tag(tag: u8) -> bool
-    ensures { λ r. ⌜ r ≡ isUnknown (kindOf tag) ⌝ }
+pub fn tag_refusal(tag: u8) -> u32
+    ensures { λ r. ⌜ r ≡ firstOf (tagRow tag) ⌝ }
 {
     match tag {
-        CONSUMER => false,
-        GENERATOR => false,
-        _ => true,
+        CONSUMER => refusals::ACCEPTED,
+        GENERATOR => refusals::ACCEPTED,
+        _ => refusals::POINT_TAG,
     }
 }
 
@@ -32,43 +57,53 @@ pub fn value_length(tag: u8) -> usize
     ensures { λ r. ⌜ r ≡ sizeOf (kindOf tag) ⌝ }
 {
     match tag {
-        CONSUMER => 5975,
-        GENERATOR => 50,
+        CONSUMER => CONSUMER_LENGTH,
+        GENERATOR => GENERATOR_LENGTH,
         _ => 0,
     }
 }
 
-// Low, high, extra-high.
-fn is_class(class: u8) -> bool
-    ensures { λ r. ⌜ r ≡ (leb 1 class && leb class 3) ⌝ }
+// A class that is none of the three.
+fn class_refusal(class: u8) -> u32
+    ensures { λ r. ⌜ r ≡ firstOf (classRow class) ⌝ }
 {
     match class {
-        1..=3 => true,
-        _ => false,
+        LOW..=EXTRA_HIGH => refusals::ACCEPTED,
+        _ => refusals::CLASS_OR_BASELINE,
+    }
+}
+
+// A baseline above the limit.
+fn baseline_refusal(kw: u32) -> u32
+    ensures { λ r. ⌜ r ≡ firstOf (baselineRow kw) ⌝ }
+{
+    match kw {
+        0..=MOST_BASELINE => refusals::ACCEPTED,
+        _ => refusals::CLASS_OR_BASELINE,
     }
 }
 
 // The loss of a voltage class.
 pub fn loss_of(losses: [u16; 3], class: u8) -> u16
-    requires { ⌜ (1 ≤ class) × (class ≤ 3) ⌝ }
+    requires { ⌜ (lowClass ≤ class) × (class ≤ extraHighClass) ⌝ }
     ensures { λ r. ⌜ r ≡ getD losses (class - 1) 0 ⌝ }
 {
     match class {
-        1 => losses[0],
-        2 => losses[1],
+        LOW => losses[0],
+        HIGH => losses[1],
         _ => losses[2],
     }
 }
 
 // A class or a baseline that is not allowed.
-fn is_unfit(tag: u8, value: &[u8]) -> bool
+fn unfit_refusal(tag: u8, value: &[u8]) -> u32
     requires { ⌜ length (now value) ≡ sizeOf (kindOf tag) ⌝ }
-    ensures { λ r. ⌜ r ≡ isUnfit (kindOf tag) (now (value .entry)) ⌝ }
+    ensures { λ r. ⌜ r ≡ firstOf (unfitRow tag (now (value .entry))) ⌝ }
 {
     match tag {
-        CONSUMER => !is_class(value[22]),
-        GENERATOR => MOST_BASELINE < numbers::word32_at(value, 22),
-        _ => false,
+        CONSUMER => class_refusal(value[CLASS_AT]),
+        GENERATOR => baseline_refusal(numbers::word32_at(value, BASELINE_AT)),
+        _ => refusals::ACCEPTED,
     }
 }
 
@@ -78,20 +113,22 @@ fn has_large(tag: u8, value: &[u8]) -> bool
     ensures { λ r. ⌜ r ≡ hasLarge (kindOf tag) (now (value .entry)) ⌝ }
 {
     match tag {
-        CONSUMER => readings::first_large(&value[23..], 1488) < 1488,
-        GENERATOR => readings::first_large(&value[26..], 6) < 6,
+        CONSUMER => readings::first_large(&value[CONSUMER_READINGS_AT..], CONSUMER_READINGS)
+            < CONSUMER_READINGS,
+        GENERATOR => readings::first_large(&value[GENERATOR_READINGS_AT..], WINDOW_SLOTS)
+            < WINDOW_SLOTS,
         _ => false,
     }
 }
 
 // The point number at the front of a value.
-pub fn number_of(value: &[u8]) -> [u8; 22]
-    requires { ⌜ 22 ≤ length (now value) ⌝ }
+pub fn number_of(value: &[u8]) -> [u8; NUMBER_LENGTH]
+    requires { ⌜ numberLength ≤ length (now value) ⌝ }
     ensures { λ r. ⌜ r ≡ numberOf (now (value .entry)) ⌝ }
 {
-    let mut number = [0u8; 22];
+    let mut number = [0u8; NUMBER_LENGTH];
     let mut i: usize = 0;
-    while i < 22 {
+    while i < NUMBER_LENGTH {
         number[i] = value[i];
         i += 1;
     }
@@ -102,8 +139,9 @@ pub fn number_of(value: &[u8]) -> [u8; 22]
 pub fn form_refusal(tag: u8, length: usize) -> u32
     ensures { λ r. ⌜ r ≡ firstOf (formRows tag length) ⌝ }
 {
-    if is_unknown_tag(tag) {
-        return refusals::POINT_TAG;
+    let unknown = tag_refusal(tag);
+    if unknown != refusals::ACCEPTED {
+        return unknown;
     }
     if length != value_length(tag) {
         return refusals::POINT_LENGTH;
@@ -116,8 +154,9 @@ pub fn value_refusal(tag: u8, value: &[u8]) -> u32
     requires { ⌜ length (now value) ≡ sizeOf (kindOf tag) ⌝ }
     ensures { λ r. ⌜ r ≡ firstOf (valueRows tag (now (value .entry))) ⌝ }
 {
-    if is_unfit(tag, value) {
-        return refusals::CLASS_OR_BASELINE;
+    let unfit = unfit_refusal(tag, value);
+    if unfit != refusals::ACCEPTED {
+        return unfit;
     }
     if has_large(tag, value) {
         return refusals::READING;

@@ -110,7 +110,7 @@ pub fn write_text(ending: Ending, out: &mut [u8; TEXT_ROOM]) -> usize
 {
     let closed = book::settling::close(ending);
     let refusal = closed.refusal;
-    if refusal != heads::refusals::ACCEPTED {
+    if refusal != refusals::ACCEPTED {
         return lines::put_line(b"refused ", refusal as u64, 0, out);
     }
     let state = ending.state;

@@ -15,7 +15,7 @@ use Rattle.readings.specs.Readings.{reading, daySums, earlierUse}
 use Rattle.baseline.specs.Baseline.{chosenDays, baseline}
 use Rattle.baseline.specs.Days.{choice}
 use Rattle.baseline.specs.declared.choosing.Chosen.{Chosen}
-use Rattle.heads.specs.Heads.{testDay, contentTests, contentRefusal}
+use Rattle.heads.specs.Heads.{testDay, counts, contentTests, contentRefusal}
 use Rattle.points.specs.Points.{consumer, generator, unknown, kindOf, isUnknown}
 use Rattle.results.specs.SlotResults.{lacksDays, daysOf, lossOf, Quotient, consumerQuotient, quotients, rounded}
 use Rattle.results.specs.Steps.{consumerSlot, foundOf}
@@ -24,7 +24,7 @@ use Rattle.results.proofs.SlotResults.{map-run}
 
 pub date-is : (h : Head) (marks : List ℕ) → contentRefusal h marks ≡ 0 → isDate (h .year) (h .month) (h .day) ≡ true
 unfolding contentRefusal
-date-is h marks e = not-false _ (untold (contentTests h marks) tt e 2)
+date-is h marks e = not-false _ (untold (contentTests counts h marks) tt e 2)
 
 -- a known tag that is not 3
 pub generator-kind : (tag : ℕ) → (tag ≡ 3 → ⊥) → isUnknown (kindOf tag) ≡ false → kindOf tag ≡ generator

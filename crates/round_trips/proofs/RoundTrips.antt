@@ -169,11 +169,11 @@ head-opens h c e = go (ℕ-discrete (firstOf (openingTests h c)) 0)
   where
     go : Dec (firstOf (openingTests h c) ≡ 0) → firstOf (openingTests h c) ≡ 0
     go (yes z) = z
-    go (no n) = absurd (n (sym (told (openingTests h c) (roomRow headRoom 53) n) ∙ e))
+    go (no n) = absurd (n (sym (told (openingTests h c) (roomRow headRoom headRoom) n) ∙ e))
 
 head-takes : (h c : List ℕ) → openingRefusal h c ≡ 0 → headWritingRefusal h c headRoom ≡ 0
 unfolding headWritingRefusal openingRefusal
-head-takes h c e = passed (openingTests h c) (roomRow headRoom 53) tt e
+head-takes h c e = passed (openingTests h c) (roomRow headRoom headRoom) tt e
 
 pub reads-back : ReadsBack
 unfolding readBook writtenBook

@@ -15,6 +15,7 @@ use Rattle.results.specs.SlotResults.{lacksDays}
 use Rattle.ledger.specs.Operations.{closeOf}
 use Rattle.book.specs.Reading.{good, Contents, Book, readBook}
 use Rattle.fields.specs.Fields.{written}
+pub use Rattle.fields.specs.Writing.{headRoom}
 use Rattle.fields.specs.Writing.{writtenHead, headWritingRefusal, pointWritingRefusal}
 use Rattle.book.specs.Settling.{settlingRefusal}
 use Rattle.ledger.specs.Calls.{Call, adding, closing, accepted, closed, program}
@@ -32,10 +33,7 @@ rises (p ∷ points) = risesAfter (numberOf (p .value)) points
 unfoldable pub writtenBook : Contents → List ℕ
 writtenBook b = writtenHead (b .head) (b .calendar) ++ gather (λ p. written (p .tag) (p .value)) (b .points)
 
--- what a head with its calendar takes, and what a point's field takes
-abbrev pub headRoom : ℕ
-headRoom = 53
-
+-- what a point's field takes
 abbrev pub roomFor : Point → ℕ
 roomFor p = 3 + length (p .value)
 

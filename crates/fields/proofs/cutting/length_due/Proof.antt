@@ -1,6 +1,6 @@
 -- By what is due; no value is longer than a consumer.
 use Rattle.points.specs.Points.{kindOf}
-use Rattle.fields.proofs.Headers.{kind-small}
+use Rattle.points.proofs.PointKinds.{kind-small}
 use borrow.Author.Needs.{needs}
 use Rattle.fields.proofs.cutting.length_due.Statement.{statement}
 use Rattle.fields.proofs.cutting.length_due.Tie as tie

@@ -3,7 +3,7 @@ use mathlib.Core.Path.{sym, ap, _∙_}
 use mathlib.Core.Bool.{not}
 use native.Mathlib.Omega.{arith}
 use borrow.Author.Tests.{not-true, not-false}
-use Rattle.points.proofs.Forms.{right-length, long-enough}
+use Rattle.points.proofs.PointKinds.{right-length, long-enough}
 use lib.ListN.{length}
 use Rattle.fields.proofs.WritingRows.{form-told, number-told, number-passed}
 use borrow.Author.Needs.{needs}

@@ -10,7 +10,7 @@ use lib.ListN.{length}
 use Rattle.numbers.specs.Refusals.{firstOf}
 use Rattle.numbers.proofs.Refusals.{told, passed}
 use Rattle.points.specs.Points.{numberOf, formRows, valueRows}
-use Rattle.points.proofs.Forms.{right-length, long-enough}
+use Rattle.points.proofs.PointKinds.{right-length, long-enough}
 use Rattle.ledger.specs.Operations.{stateRows, placesRow, numberRows, earlyRefusal}
 use Rattle.ledger.proofs.adding.early_refusal.Statement.{statement}
 use Rattle.ledger.proofs.adding.early_refusal.Tie as tie
