@@ -1,9 +1,10 @@
 // The closing figures.
 ghost use mathlib.Core.Path.{_≡_};
-ghost use mathlib.Core.Bool.{false};
 ghost use Prim.Native.Nat.{ℕ, _≤_, _<_};
 ghost use lib.IntN.{ℤ, pos, natAbs};
+ghost use lib.Dec.{leb};
 ghost use lib.ListN.{getD};
+ghost use Rattle.heads.specs.Limits.{leastBid};
 ghost use Rattle.figures.specs.Figures.{shortfallOf, figuresOf, noFigures};
 use crate::Figures;
 
@@ -36,6 +37,16 @@ fn smaller(a: u64, b: u64) -> u64
     if a < b { a } else { b }
 }
 
+// Whether an expected capacity may be bid.
+fn is_bid(expected: u64) -> bool
+    ensures { λ r. ⌜ r ≡ leb leastBid expected ⌝ }
+{
+    if expected < LEAST_BID {
+        return false;
+    }
+    true
+}
+
 // The figures of a contract, slot totals and points taken.
 pub fn figures_of(contract: u32, totals: [i64; 6], points: u32) -> Figures
     requires { ⌜ ((i : ℕ) → natAbs (getD totals i (pos 0)) ≤ 1000000000000000) ⌝ }
@@ -46,6 +57,7 @@ pub fn figures_of(contract: u32, totals: [i64; 6], points: u32) -> Figures
     let shortfall = shortfall_of(contract, settled);
     let expected = integers::or_zero(settled);
     let kept = smaller(expected, contract as u64);
+    let bid = is_bid(expected);
     Figures {
         total,
         settled,
@@ -54,7 +66,7 @@ pub fn figures_of(contract: u32, totals: [i64; 6], points: u32) -> Figures
         kept,
         surplus: expected - kept,
         points,
-        bid: LEAST_BID <= expected,
+        bid,
     }
 }
 

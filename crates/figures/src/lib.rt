@@ -1,3 +1,4 @@
+// Slot totals and the closing figures.
 pub mod closing;
 pub mod totals;
 

@@ -1,16 +1,13 @@
 -- Kinds of point by their tags, and what a point of the right form or with allowed values shows. Assumes nothing.
 use mathlib.Core.Path.{_≡_}
 use mathlib.Core.Bool.{false}
-use mathlib.Core.List.{List}
 use Prim.Native.Nat.{ℕ, _≤_}
 use native.Mathlib.Omega.{arith}
 use borrow.Author.Tests.{eqb-true, not-false, eq-eqb, ne-eqb}
-use lib.Dec.{T}
 use Rattle.numbers.specs.Refusals.{firstOf}
-use Rattle.numbers.proofs.Refusals.{numbered, untold}
+use Rattle.numbers.proofs.Refusals.{untold}
 use Rattle.numbers.specs.PointNumbers.{numberLength}
-use Rattle.points.specs.Points.{consumerTag, generatorTag, consumerLength, generatorLength}
-use Rattle.points.specs.Points.{Kind, consumer, generator, unknown, kindOf, isUnknown, sizeOf, isUnfit, hasLarge, formRows, valueRows}
+use Rattle.points.specs.Points.{consumerTag, generatorTag, consumerLength, generatorLength, Kind, consumer, generator, unknown, kindOf, isUnknown, sizeOf, formRows}
 
 module _ (tag : ℕ) where
   pub is-consumer : tag ≡ consumerTag → kindOf tag ≡ consumer

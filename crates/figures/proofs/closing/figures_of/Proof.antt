@@ -16,10 +16,14 @@ shortfall-of-requires c κs =
 returns : tie.Need-returns
 unfolding figuresOf
 returns c =
-    let b = c .before .before .before .before in
-    let total = toZ-ofZ {w = w64} (sfits-of (b .total-of .ok)) ∙ b .total-of .ensures in
-    let settled = toZ-ofZ {w = w64} (sfits-of (c .before .before .before .floor-div .ok)) ∙ c .before .before .before .floor-div .ensures in
-    rw (c .smaller .ensures, c .before .or-zero .ensures, c .before .before .shortfall-of .ensures, settled, total)
+    let at-kept = c .before in
+    let at-expected = at-kept .before in
+    let at-shortfall = at-expected .before in
+    let at-settled = at-shortfall .before in
+    let at-total = at-settled .before in
+    let total = toZ-ofZ {w = w64} (sfits-of (at-total .total-of .ok)) ∙ at-total .total-of .ensures in
+    let settled = toZ-ofZ {w = w64} (sfits-of (at-settled .floor-div .ok)) ∙ at-settled .floor-div .ensures in
+    rw (c .is-bid .ensures, at-kept .smaller .ensures, at-expected .or-zero .ensures, at-shortfall .shortfall-of .ensures, settled, total)
 
 pub figures-of-spec : {M : Type 1} → statement M
 figures-of-spec =
@@ -28,6 +32,7 @@ figures-of-spec =
     (λ c κs. search needs)
     (λ c κs. search needs)
     shortfall-of-requires
+    (λ c κs. search needs)
     (λ c κs. search needs)
     (λ c κs. search needs)
     (λ c. search needs)

@@ -1,9 +1,10 @@
 -- The totals are passed from the front.
 use mathlib.Core.Path.{_≡_, refl, sym, _∙_}
+use mathlib.Core.Bool.{Bool}
 use Prim.Native.Nat.{_≤_, _-_}
 use native.Mathlib.Omega.{arith}
 use lib.Dec.{ltb}
-use lib.IntN.{pos, natAbs}
+use lib.IntN.{ℤ, pos, natAbs}
 use lib.ListN.{length, drop}
 use mir.Facts.{toZ-ofZ}
 use borrow.Author.Needs.{needs, sfits-of}
@@ -14,7 +15,9 @@ use Rattle.figures.proofs.totals.has_beyond.Statement.{statement}
 use Rattle.figures.proofs.totals.has_beyond.Tie as tie
 
 abbrev Inv-loop : tie.InvT-loop
-Inv-loop most totals i₀ i = (i ≤ 6) × (length totals ≡ 6) × (any (λ total. ltb most (natAbs total)) totals ≡ any (λ total. ltb most (natAbs total)) (drop i totals))
+Inv-loop most totals i₀ i =
+    let beyond : ℤ → Bool = λ total. ltb most (natAbs total) in
+    (i ≤ 6) × (length totals ≡ 6) × (any beyond totals ≡ any beyond (drop i totals))
 
 abbrev μ-loop : tie.MeasureT-loop
 μ-loop most totals i₀ i = 6 - i
@@ -24,18 +27,19 @@ loop-holds c = (search needs, search needs, refl)
 
 returns : tie.Need-returns Inv-loop μ-loop
 returns c =
-    let s = c .before .before .before .before .before in
-    let l = c .before .before .before .before .loop in
-    sym (l .inv .2 ∙ any-here _ (s .args .t1) (l .i) (pos 0) (omega arith) (lt-ltb _ _ (rw (c .before .size-of .ensures, toZ-ofZ (sfits-of (c .before .before .size-of-arg .given))) at (c .if1 .taken))))
+    let at-arg = c .before .before in
+    let at-loop = at-arg .before .before in
+    let l = at-loop .loop in
+    let beyond = lt-ltb _ _ (rw (c .before .size-of .ensures, toZ-ofZ (sfits-of (at-arg .size-of-arg .given))) at (c .if1 .taken)) in
+    sym (l .inv .2 ∙ any-here _ (at-loop .before .args .t1) (l .i) (pos 0) (omega arith) beyond)
 
 loop-again : tie.Need-loop-again Inv-loop μ-loop
 loop-again c =
-    let s = c .before .before .before .before .before in
-    let l = c .before .before .before .before .loop in (
-      omega arith,
-      l .inv .1,
-      l .inv .2 ∙ any-next _ (s .args .t1) (l .i) (pos 0) (omega arith) (le-ltb _ _ (rw (c .before .size-of .ensures, toZ-ofZ (sfits-of (c .before .before .size-of-arg .given))) at (c .if1 .left))),
-    )
+    let at-arg = c .before .before in
+    let at-loop = at-arg .before .before in
+    let l = at-loop .loop in
+    let within = le-ltb _ _ (rw (c .before .size-of .ensures, toZ-ofZ (sfits-of (at-arg .size-of-arg .given))) at (c .if1 .left)) in
+    (omega arith, l .inv .1, l .inv .2 ∙ any-next _ (at-loop .before .args .t1) (l .i) (pos 0) (omega arith) within)
 
 returns-2 : tie.Need-returns-2 Inv-loop μ-loop
 returns-2 c = let l = c .before .loop in sym (l .inv .2 ∙ any-end _ (c .before .before .args .t1) (l .i) (omega arith))
