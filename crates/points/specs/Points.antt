@@ -34,7 +34,7 @@ isUnknown consumer = false
 isUnknown generator = false
 isUnknown unknown = true
 
--- 'Tag 3, consumer, 5,975 bytes: point number, class, 1,488 readings of 4 bytes'
+-- 'Tag 3, consumer, 5,975 bytes: point number, class .., 1,488 readings of 4 bytes'
 abbrev pub consumerLength : ℕ
 consumerLength = 5_975
 

@@ -65,7 +65,7 @@ pub record InFull (book : List ℕ) : Type 0 where
 abbrev pub ReadInFull : Type 0
 ReadInFull = (book : List ℕ) → InFull book
 
--- 'A book that we write gives 0.'
+-- Such a book not only reads back: Whole book answers 0.
 abbrev pub WrittenGivesZero : Type 0
 WrittenGivesZero = (b : Contents) → Writable b → settlingRefusal (writtenBook b) 64 ≡ 0
 
