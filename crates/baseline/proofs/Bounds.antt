@@ -10,12 +10,13 @@ use Rattle.numbers.proofs.Filling.{run-length}
 use Rattle.calendar.specs.Eligible.{ofDay, isEligible, eligibleDays}
 use Rattle.readings.specs.Readings.{mostReading, readingCount, firstLarge, windowSums, lastWindow, earlierSlot, Back}
 use Rattle.readings.proofs.Bounds.{slot-sums-bound, earlier-use-bound}
-use Rattle.baseline.specs.Choosing.{isFew}
+use Rattle.choosing.specs.Choosing.{isFew}
 use Rattle.baseline.specs.Baseline.{chosenDays, daySums, baselineOn}
-use Rattle.baseline.specs.Days.{Rising, choice, Sums}
-use Rattle.baseline.proofs.Rising.{rising-far}
-use Rattle.baseline.proofs.Flags.{flags-rising, flags-filter}
-use Rattle.baseline.proofs.Lowest.{chosen-rising, chosen-length}
+use Rattle.choosing.specs.Days.{Rising, choice}
+use Rattle.baseline.specs.Consumers.{Sums}
+use Rattle.choosing.proofs.Rising.{rising-far}
+use Rattle.choosing.proofs.Flags.{flags-rising, flags-filter}
+use Rattle.choosing.proofs.Lowest.{chosen-rising, chosen-length}
 
 eligible-rising : (test : ℕ) (marks : List ℕ) → Rising 0 30 (eligibleDays test marks)
 eligible-rising test marks =

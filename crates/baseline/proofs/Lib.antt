@@ -1,8 +1,1 @@
-pub mod Rising
-pub mod Flags
-pub mod Keeping
-pub mod Rounds
-pub mod Walking
-pub mod Lowest
-pub mod Choices
 pub mod Bounds

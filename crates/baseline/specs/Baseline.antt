@@ -5,7 +5,7 @@ use lib.ListN.{getD}
 use Rattle.numbers.specs.Lists.{sum}
 use Rattle.calendar.specs.Eligible.{ofDay, eligibleDays}
 use Rattle.readings.specs.Readings.{windowSums, slotSums, earlierSlot, earlierUse}
-use Rattle.baseline.specs.Choosing.{chosen}
+use Rattle.choosing.specs.Choosing.{chosen}
 
 -- the four days of a consumer, for the count of the test day
 abbrev pub chosenDays : ℕ → List ℕ → List ℕ → ℕ → List ℕ

@@ -1,3 +1,2 @@
-pub mod Choosing
 pub mod Baseline
-pub mod Days
+pub mod Consumers

@@ -2,17 +2,20 @@
 ghost use mathlib.Core.Path.{_≡_};
 ghost use Prim.Native.Nat.{_+_, _*_, _-_, _≤_};
 ghost use Rattle.numbers.specs.Lists.{run, sum};
-ghost use Rattle.readings.specs.Readings.{Back};
-ghost use Rattle.baseline.specs.Baseline.{chosenDays, baseline};
-ghost use Rattle.baseline.specs.Days.{AtMost, Sums, Tested, choice, baselinesOn};
-
-pub mod choosing;
-
+ghost use Rattle.numbers.specs.Slots.{daysBack, windowSlots};
+ghost use Rattle.readings.specs.Readings.{mostReading, Back};
+ghost use Rattle.choosing.specs.Choosing.{daysUsed};
+ghost use Rattle.choosing.specs.Days.{AtMost, choice};
+ghost use Rattle.baseline.specs.Baseline.{chosenDays, daySums, baseline};
+ghost use Rattle.baseline.specs.Consumers.{Tested, Sums, consumerBaselines};
 use calendar::eligible_days;
 use choosing::Chosen;
 use choosing::choose;
-use choosing::day_sums;
+use numbers::DAYS_BACK;
+use numbers::WINDOW_SLOTS;
+use readings::EARLIER_BY;
 use readings::earlier_use;
+use readings::slot_sums;
 use readings::window_sums;
 
 // The four days of a consumer, nearest first, and its baseline in each window slot, in twenty-fourths of a Wh; zeros where there are
@@ -20,12 +23,12 @@ use readings::window_sums;
 pub struct Baselines {
     pub enough: bool,
     pub days: [usize; 4],
-    pub slots: [u64; 6],
+    pub slots: [u64; WINDOW_SLOTS],
 }
 
 // The four days of a consumer, for the count of the test day.
-fn chosen_days(test: u32, marks: [u8; 30], readings: &[u8], slot: usize) -> Chosen
-    requires { ⌜ (30 ≤ test) × Tested (now readings) slot ⌝ }
+fn chosen_days(test: u32, marks: [u8; DAYS_BACK], readings: &[u8], slot: usize) -> Chosen
+    requires { ⌜ (daysBack ≤ test) × Tested (now readings) slot ⌝ }
     ensures { λ r. ⌜ (r ≡ choice (chosenDays test marks (now (readings .entry)) slot)) × Back (r .days) ⌝ }
 {
     let eligible = eligible_days(test, marks);
@@ -33,10 +36,20 @@ fn chosen_days(test: u32, marks: [u8; 30], readings: &[u8], slot: usize) -> Chos
     choose(eligible, &sums)
 }
 
+// Where the choice ends: six window sums and six earlier sums, each over the four days.
+pub fn day_sums(readings: &[u8], days: [usize; 4], slot: usize) -> [[u64; WINDOW_SLOTS]; 2]
+    requires { ⌜ Tested (now readings) slot × Back days ⌝ }
+    ensures { λ r. ⌜ r ≡ daySums (now (readings .entry)) days slot ⌝ }
+{
+    let window = slot_sums(readings, days, slot);
+    let earlier = slot_sums(readings, days, slot - EARLIER_BY);
+    [window, earlier]
+}
+
 // Six sums together.
-fn sum_of_six(sums: [u64; 6]) -> u64
-    requires { ⌜ AtMost 4_000_000_000 sums ⌝ }
-    ensures { λ r. ⌜ (r ≡ sum sums) × (r ≤ 24_000_000_000) ⌝ }
+fn sum_of_six(sums: [u64; WINDOW_SLOTS]) -> u64
+    requires { ⌜ AtMost (daysUsed * mostReading) sums ⌝ }
+    ensures { λ r. ⌜ (r ≡ sum sums) × (r ≤ windowSlots * (daysUsed * mostReading)) ⌝ }
 {
     sums[0] + sums[1] + sums[2] + sums[3] + sums[4] + sums[5]
 }
@@ -44,7 +57,7 @@ fn sum_of_six(sums: [u64; 6]) -> u64
 // One slot: six times its four-day sum and four times the test day's earlier use, less the earlier sums together; 0 where that is
 // negative.
 fn baseline_of(sum: u64, earlier: u64, less: u64) -> u64
-    requires { ⌜ (sum ≤ 4_000_000_000) × (earlier ≤ 6_000_000_000) ⌝ }
+    requires { ⌜ (sum ≤ daysUsed * mostReading) × (earlier ≤ windowSlots * mostReading) ⌝ }
     ensures { λ r. ⌜ r ≡ 6 * sum + 4 * earlier - less ⌝ }
 {
     let gross = 6 * sum + 4 * earlier;
@@ -55,16 +68,16 @@ fn baseline_of(sum: u64, earlier: u64, less: u64) -> u64
 }
 
 // The baseline in each window slot, from the window sums and the earlier sums over the four days and from the test day's earlier use.
-fn baselines_of(sums: [[u64; 6]; 2], earlier: u64) -> [u64; 6]
-    requires { ⌜ Sums sums × (earlier ≤ 6_000_000_000) ⌝ }
-    ensures { λ r. ⌜ r ≡ run (baseline sums earlier) 0 6 ⌝ }
+fn baselines_of(sums: [[u64; WINDOW_SLOTS]; 2], earlier: u64) -> [u64; WINDOW_SLOTS]
+    requires { ⌜ Sums sums × (earlier ≤ windowSlots * mostReading) ⌝ }
+    ensures { λ r. ⌜ r ≡ run (baseline sums earlier) 0 windowSlots ⌝ }
 {
     let window = sums[0];
     let earlier_sums = sums[1];
     let less = sum_of_six(earlier_sums);
-    let mut slots = [0u64; 6];
+    let mut slots = [0u64; WINDOW_SLOTS];
     let mut j: usize = 0;
-    while j < 6 {
+    while j < WINDOW_SLOTS {
         slots[j] = baseline_of(window[j], earlier, less);
         j += 1;
     }
@@ -73,9 +86,14 @@ fn baselines_of(sums: [[u64; 6]; 2], earlier: u64) -> [u64; 6]
 
 // The days of a consumer and its baseline on them. Here the choice of days hands two arrays of six sums to the baseline, which sees
 // nothing else of the days back.
-pub fn consumer_baselines(test: u32, marks: [u8; 30], readings: &[u8], slot: usize) -> Baselines
-    requires { ⌜ (30 ≤ test) × Tested (now readings) slot ⌝ }
-    ensures { λ r. ⌜ r ≡ baselinesOn (chosenDays test marks (now (readings .entry)) slot) (now (readings .entry)) slot ⌝ }
+pub fn consumer_baselines(
+    test: u32,
+    marks: [u8; DAYS_BACK],
+    readings: &[u8],
+    slot: usize,
+) -> Baselines
+    requires { ⌜ (daysBack ≤ test) × Tested (now readings) slot ⌝ }
+    ensures { λ r. ⌜ r ≡ consumerBaselines test marks (now (readings .entry)) slot ⌝ }
 {
     let chosen = chosen_days(test, marks, readings, slot);
     let enough = chosen.enough;
@@ -83,7 +101,7 @@ pub fn consumer_baselines(test: u32, marks: [u8; 30], readings: &[u8], slot: usi
         return Baselines {
             enough: false,
             days: [0; 4],
-            slots: [0; 6],
+            slots: [0; WINDOW_SLOTS],
         };
     }
     let days = chosen.days;

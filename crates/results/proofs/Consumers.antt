@@ -15,9 +15,10 @@ use Rattle.numbers.proofs.Refusals.{untold}
 use Rattle.calendar.specs.Dates.{isDate}
 use Rattle.readings.specs.Readings.{mostReading}
 use Rattle.readings.proofs.Sums.{run-within}
-use Rattle.baseline.specs.Choosing.{isFew}
+use Rattle.choosing.specs.Choosing.{isFew}
 use Rattle.baseline.specs.Baseline.{chosenDays, baselineOn}
-use Rattle.baseline.specs.Days.{AtMost, Tested, baselinesOn}
+use Rattle.choosing.specs.Days.{AtMost}
+use Rattle.baseline.specs.Consumers.{Tested, baselinesOn}
 use Rattle.baseline.specs.declared.Baselines.{Baselines}
 use Rattle.baseline.proofs.Bounds.{baseline-bound}
 use Rattle.heads.specs.Limits.{mostLoss}

@@ -9,7 +9,7 @@ use Rattle.numbers.specs.Lists.{run}
 use Rattle.numbers.specs.Words.{word32}
 use Rattle.integers.specs.Integers.{floorDiv}
 use Rattle.readings.specs.Readings.{reading, earlierUse}
-use Rattle.baseline.specs.Choosing.{isFew}
+use Rattle.choosing.specs.Choosing.{isFew}
 use Rattle.baseline.specs.Baseline.{chosenDays, daySums, baseline}
 use Rattle.heads.specs.Heads.{testDay}
 use Rattle.heads.specs.declared.Head.{Head}

@@ -11,7 +11,7 @@ use Rattle.numbers.specs.Words.{bytesOf}
 use Rattle.calendar.specs.Dates.{dayCount}
 use Rattle.calendar.specs.Eligible.{ofDay, eligibleDays}
 use Rattle.readings.specs.Readings.{earlierUse}
-use Rattle.baseline.specs.Choosing.{standing, chosen}
+use Rattle.choosing.specs.Choosing.{standing, chosen}
 use Rattle.baseline.specs.Baseline.{baseline, daySums}
 use Rattle.heads.specs.Heads.{headOf}
 use Rattle.points.specs.Points.{consumer, readingsOf}

@@ -4,8 +4,8 @@ use native.Mathlib.Omega.{arith}
 use borrow.Author.Needs.{needs}
 use Rattle.calendar.specs.Eligible.{isEligible}
 use Rattle.baseline.specs.Baseline.{chosenDays}
-use Rattle.baseline.specs.Days.{choice}
-use Rattle.baseline.proofs.Flags.{flags-filter}
+use Rattle.choosing.specs.Days.{choice}
+use Rattle.choosing.proofs.Flags.{flags-filter}
 use Rattle.readings.proofs.Bounds.{window-sums-bound}
 use Rattle.baseline.proofs.Bounds.{chosen-days-back, choice-back}
 use Rattle.baseline.proofs.chosen_days.Statement.{statement}

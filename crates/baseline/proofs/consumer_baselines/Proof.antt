@@ -5,9 +5,9 @@ use borrow.Author.Needs.{needs}
 use borrow.Author.Tests.{not-true, not-false}
 use Rattle.readings.proofs.Bounds.{earlier-use-bound}
 use Rattle.baseline.specs.Baseline.{chosenDays}
-use Rattle.baseline.specs.Days.{baselinesOn}
+use Rattle.baseline.specs.Consumers.{baselinesOn}
 use Rattle.baseline.proofs.Bounds.{chosen-sums-bound}
-use Rattle.baseline.proofs.Choices.{few-days, four-days}
+use Rattle.choosing.proofs.Choices.{few-days, four-days}
 use Rattle.baseline.proofs.consumer_baselines.Statement.{statement}
 use Rattle.baseline.proofs.consumer_baselines.Tie as tie
 

@@ -1,0 +1,7 @@
+pub mod Rising
+pub mod Flags
+pub mod Keeping
+pub mod Rounds
+pub mod Walking
+pub mod Lowest
+pub mod Choices

@@ -1,0 +1,121 @@
+-- The walk, round by round. Assumes nothing.
+use mathlib.Core.Path.{_≡_, refl, ap, _∙_}
+use mathlib.Core.Bool.{Bool, true, false, cond}
+use mathlib.Core.List.{List, [], _∷_, _++_}
+use Prim.Native.Nat.{ℕ, zero, suc, _<_, _≤_}
+use native.Mathlib.Omega.{arith}
+use lib.Dec.{ltb, eqb}
+use lib.ListN.{length, take, drop, length-append, length-take, length-drop}
+use lib.Seq.{take-at, drop-at, length-take-le}
+use borrow.Author.Tests.{eq-eqb, ne-eqb, lt-ltb, le-ltb, ltb-true, ltb-false, eqb-false}
+use Rattle.numbers.specs.Lists.{filter}
+use Rattle.choosing.specs.Choosing.{round, walk, standing}
+use Rattle.choosing.specs.Days.{Rising}
+use Rattle.choosing.proofs.Rising.{rising-filter, rising-append, rising-split, rising-take}
+
+filter-length : (test : ℕ → Bool) (days : List ℕ) → length (filter test days) ≤ length days
+unfolding filter
+filter-length test [] = omega arith
+filter-length test (k ∷ days) = go (test k) (filter-length test days)
+  where
+    go : (t : Bool) → length (filter test days) ≤ length days → length (cond t (k ∷ filter test days) (filter test days)) ≤ suc (length days)
+    go true h = omega arith
+    go false h = omega arith
+
+-- a test that all pass
+pub filter-all : (test : ℕ → Bool) (days : List ℕ) → length (filter test days) ≡ length days → filter test days ≡ days
+unfolding filter
+filter-all test [] e = refl
+filter-all test (k ∷ days) e = go (test k) (filter-all test days) (filter-length test days) e
+  where
+    go : (t : Bool) → (length (filter test days) ≡ length days → filter test days ≡ days) → length (filter test days) ≤ length days
+        → length (cond t (k ∷ filter test days) (filter test days)) ≡ suc (length days)
+        → cond t (k ∷ filter test days) (filter test days) ≡ k ∷ days
+    go true r h q = ap (λ xs. k ∷ xs) (r (omega arith))
+    go false r h q = absurd (omega arith)
+
+module _ (w : ℕ → ℕ) where
+  pub round-length : (five : List ℕ) → length (round w five) ≤ length five
+  round-length five = filter-length _ five
+
+  -- what the next round is over
+  after : List ℕ → List ℕ
+  after days = round w (take 5 days) ++ drop 5 days
+
+  after-less : (days : List ℕ) → 5 ≤ length days → (length (round w (take 5 days)) ≡ 5 → ⊥) → length (after days) < length days
+  unfolding after
+  after-less days h n = simp (length-append, length-drop) (omega (arith, n, round-length (take 5 days), length-take-le 5 days h))
+
+  -- as many rounds as days are enough
+  enough : (m n : ℕ) (days : List ℕ) → length days ≤ m → length days ≤ n → walk w m days ≡ walk w n days
+  unfolding walk after
+  enough zero zero days h k = refl
+  enough zero (suc n) days h k = simp (lt-ltb (length days) 5 (omega arith))
+  enough (suc m) zero days h k = simp (lt-ltb (length days) 5 (omega arith))
+  enough (suc m) (suc n) days h k =
+      go (ltb (length days) 5) (eqb (length (round w (take 5 days))) 5) refl refl
+      (λ l. enough m n (after days) (omega arith) (omega arith))
+    where
+      go : (a b : Bool) → ltb (length days) 5 ≡ a → eqb (length (round w (take 5 days))) 5 ≡ b
+          → (length (after days) < length days → walk w m (after days) ≡ walk w n (after days))
+          → cond a days (cond b (take 5 days) (walk w m (after days))) ≡ cond a days (cond b (take 5 days) (walk w n (after days)))
+      go true b p q r = refl
+      go false true p q r = refl
+      go false false p q r = r (after-less days (ltb-false _ _ p) (eqb-false _ _ q))
+
+  once-more : (days : List ℕ) → standing w days ≡ walk w (suc (length days)) days
+  once-more days = enough (length days) (suc (length days)) days (omega arith) (omega arith)
+
+  -- 'or when fewer than five are left'
+  pub days-run-out : (days : List ℕ) → length days < 5 → standing w days ≡ days
+  unfolding walk
+  days-run-out days h = once-more days ∙ simp (lt-ltb (length days) 5)
+
+  module _ (five rest : List ℕ) (h : length five ≡ 5) where
+    long : 5 ≤ length (five ++ rest)
+    long = simp length-append (omega arith)
+
+    -- 'The walk stops at the first round that drops no day'
+    pub none-dropped : length (round w five) ≡ 5 → standing w (five ++ rest) ≡ five
+    unfolding walk
+    none-dropped e = once-more (five ++ rest) ∙ simp (le-ltb _ _ long, take-at five rest 5 h, eq-eqb _ _ e)
+
+    pub some-dropped : (length (round w five) ≡ 5 → ⊥) → standing w (five ++ rest) ≡ standing w (round w five ++ rest)
+    unfolding walk
+    some-dropped n =
+        once-more (five ++ rest) ∙ simp (le-ltb _ _ long, take-at five rest 5 h, drop-at five rest 5 h, ne-eqb _ _ n)
+        (enough (length (five ++ rest)) (length (round w five ++ rest)) (round w five ++ rest) (simp length-append (omega (arith, round-length five))) (omega arith))
+
+  walk-length : (n : ℕ) (days : List ℕ) → length days ≤ n → length (walk w n days) ≤ 5
+  unfolding walk after
+  walk-length zero days h = omega arith
+  walk-length (suc n) days h =
+      go (ltb (length days) 5) (eqb (length (round w (take 5 days))) 5) refl refl (λ l. walk-length n (after days) (omega arith))
+    where
+      go : (a b : Bool) → ltb (length days) 5 ≡ a → eqb (length (round w (take 5 days))) 5 ≡ b
+          → (length (after days) < length days → length (walk w n (after days)) ≤ 5)
+          → length (cond a days (cond b (take 5 days) (walk w n (after days)))) ≤ 5
+      go true b p q r = let h : length days < 5 = ltb-true _ _ p in omega arith
+      go false true p q r = omega (arith, length-take 5 days)
+      go false false p q r = r (after-less days (ltb-false _ _ p) (eqb-false _ _ q))
+
+  -- at most five days stand
+  pub standing-length : (days : List ℕ) → length (standing w days) ≤ 5
+  standing-length days = walk-length (length days) days (omega arith)
+
+  walk-rising : {near far : ℕ} {days : List ℕ} (n : ℕ) → Rising near far days → Rising near far (walk w n days)
+  unfolding walk
+  walk-rising zero r = r
+  walk-rising {near} {far} {days} (suc n) r =
+      let q = rising-split 5 r in
+      go (ltb (length days) 5) (eqb (length (round w (take 5 days))) 5)
+      (rising-take 5 r) (walk-rising n (rising-append (rising-filter _ (q .1)) (q .2)))
+    where
+      go : (a b : Bool) {five rest : List ℕ} → Rising near far five → Rising near far rest → Rising near far (cond a days (cond b five rest))
+      go true b p q = r
+      go false true p q = p
+      go false false p q = q
+
+  -- they are in the order of the days walked over, none twice
+  pub standing-rising : {near far : ℕ} {days : List ℕ} → Rising near far days → Rising near far (standing w days)
+  standing-rising {days = days} r = walk-rising (length days) r
