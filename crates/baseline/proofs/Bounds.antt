@@ -4,40 +4,37 @@ use mathlib.Core.Bool.{Bool, true, false, cond}
 use mathlib.Core.List.{List}
 use Prim.Native.Nat.{ℕ, zero, suc, _*_, _≤_}
 use native.Mathlib.Omega.{arith}
-use lib.ListN.{length, replicate}
+use lib.ListN.{replicate}
 use Rattle.numbers.specs.Lists.{run}
+use Rattle.numbers.specs.Slots.{daysBack}
 use Rattle.numbers.proofs.Filling.{run-length}
-use Rattle.calendar.specs.Eligible.{ofDay, isEligible, eligibleDays}
+use Rattle.calendar.specs.Eligible.{ofDay, isEligible}
 use Rattle.readings.specs.Readings.{mostReading, readingCount, firstLarge, windowSums, lastWindow, earlierSlot, Back}
 use Rattle.readings.proofs.Bounds.{slot-sums-bound, earlier-use-bound}
-use Rattle.choosing.specs.Choosing.{isFew}
+use Rattle.choosing.specs.Choosing.{daysUsed, isFew}
 use Rattle.baseline.specs.Baseline.{chosenDays, daySums, baselineOn}
-use Rattle.choosing.specs.Days.{Rising, choice}
+use Rattle.choosing.specs.Days.{choice}
 use Rattle.baseline.specs.Consumers.{Sums}
-use Rattle.choosing.proofs.Rising.{rising-far}
+use Rattle.choosing.proofs.Rising.{Few, rising-far}
 use Rattle.choosing.proofs.Flags.{flags-rising, flags-filter}
-use Rattle.choosing.proofs.Lowest.{chosen-rising, chosen-length}
-
-eligible-rising : (test : ℕ) (marks : List ℕ) → Rising 0 30 (eligibleDays test marks)
-eligible-rising test marks =
-    rw (← flags-filter (isEligible test marks) 1 30) (flags-rising (run (isEligible test marks) 1 30) (omega (arith, run-length (isEligible test marks) 1 30)))
+use Rattle.choosing.proofs.Lowest.{chosen-few}
 
 module _ (test : ℕ) (marks readings : List ℕ) (s : ℕ) where
-  pub chosen-days-rising : Rising 0 30 (chosenDays test marks readings s)
-  chosen-days-rising = chosen-rising (ofDay (windowSums readings s)) (eligible-rising test marks)
+  chosen-days-few : Few daysUsed 0 daysBack (chosenDays test marks readings s)
+  chosen-days-few =
+      let eligible = isEligible test marks in
+      rw (← flags-filter eligible 1 daysBack)
+      (chosen-few (ofDay (windowSums readings s)) (flags-rising (run eligible 1 daysBack) (omega (arith, run-length eligible 1 daysBack))))
 
   pub chosen-days-back : Back (chosenDays test marks readings s)
-  chosen-days-back i = rising-far i chosen-days-rising
-
-  pub chosen-days-four : length (chosenDays test marks readings s) ≤ 4
-  chosen-days-four = chosen-length (ofDay (windowSums readings s)) (eligible-rising test marks)
+  chosen-days-back i = rising-far i (chosen-days-few .1)
 
   -- the sums over them, and the baseline
   module _ (fits : firstLarge readings readingCount ≡ readingCount) (h : s ≤ lastWindow) where
     pub chosen-sums-bound : Sums (daySums readings (chosenDays test marks readings s) s)
     unfolding daySums
     chosen-sums-bound =
-        let within = slot-sums-bound readings fits _ chosen-days-four chosen-days-back in
+        let within = slot-sums-bound readings fits _ (chosen-days-few .0) chosen-days-back in
         record { window = within s h; earlier = within (earlierSlot s) (omega arith) }
 
     pub baseline-bound : (j : ℕ) → baselineOn readings (chosenDays test marks readings s) s j ≤ 48 * mostReading
@@ -52,6 +49,6 @@ pub choice-back : (days : List ℕ) → Back days → Back (choice days .days)
 unfolding choice
 choice-back days h = go (isFew days)
   where
-    go : (t : Bool) → Back (cond t (replicate 4 0) days)
-    go true = zeros-back 4
+    go : (t : Bool) → Back (cond t (replicate daysUsed 0) days)
+    go true = zeros-back daysUsed
     go false = h

@@ -12,7 +12,7 @@ use Rattle.choosing.specs.Days.{Rising, Holds, choice}
 use Rattle.choosing.specs.declared.Chosen.{Chosen}
 use Rattle.choosing.specs.declared.Round.{Round}
 use Rattle.choosing.proofs.Rising.{without}
-use Rattle.choosing.proofs.Rounds.{standing-rising}
+use Rattle.choosing.proofs.Rounds.{standing-few}
 use Rattle.choosing.proofs.Lowest.{used-five, used-fewer, four-left}
 
 -- the answer's days are told by its flag
@@ -62,7 +62,7 @@ module _ {w : ℕ → ℕ} (days : List ℕ) {r : Round} (stood : Holds w (stand
     five = sym (take-all (r .count) (r .days) (omega arith)) ∙ stood .held
 
     pub five-rising : {near far : ℕ} → Rising near far days → Rising near far (r .days)
-    five-rising q = rw five (standing-rising w q)
+    five-rising q = rw five (standing-few w q .1)
 
     pub lowest-goes : {near far : ℕ} (low : ℕ) → low ≡ lowest w (getD (r .days) 0 0) (drop 1 (r .days)) → Rising near far days
         → (length (without low (r .days)) ≡ 4) × (choice (chosen w days) ≡ record { enough = true; days = without low (r .days) })

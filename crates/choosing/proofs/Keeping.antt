@@ -1,47 +1,95 @@
--- Days that a loop keeps one after the other. Assumes nothing.
-use mathlib.Core.Path.{_≡_, sym, ap, _∙_}
+-- A loop that keeps some days at the front of an array, in their order. Assumes nothing.
+use mathlib.Core.Path.{_≡_, refl, sym, ap, _∙_}
 use mathlib.Core.Bool.{Bool, true, false}
-use mathlib.Core.List.{List, [], _∷_, _++_, append-nil}
-use Prim.Native.Nat.{ℕ, _+_, _<_, _≤_}
+use mathlib.Core.List.{List, [], _∷_, _++_, map, append-nil}
+use Prim.Native.Nat.{ℕ, _+_, _-_, _<_, _≤_}
 use native.Mathlib.Numerals.{add-one}
 use native.Mathlib.Nat.{add-zero}
 use native.Mathlib.Omega.{arith}
-use lib.ListN.{length, getD, set, take, drop, length-append, take-append-drop}
-use lib.Seq.{take-suc, take-suc-set, drop-drop, drop-set-lt, getD-drop}
-use Rattle.numbers.specs.Lists.{filter}
+use lib.ListN.{length, getD, set, take, drop, length-set, length-append, take-append-drop}
+use lib.Seq.{take-suc, take-suc-set, take-all, drop-drop, drop-set-lt, getD-drop}
+use Rattle.numbers.specs.Lists.{sum, filter}
 use Rattle.numbers.proofs.Filling.{filter-append}
-
-module _ (test : ℕ → Bool) (days : List ℕ) (i : ℕ) where
-  pub keep-yes : i < length days → test (getD days i 0) ≡ true → filter test (take (i + 1) days) ≡ filter test (take i days) ++ getD days i 0 ∷ []
-  unfolding filter
-  keep-yes h e = rw (add-one, take-suc days i 0) (filter-append test (take i days) (getD days i 0 ∷ []) ∙ rw e)
-
-  pub keep-no : i < length days → test (getD days i 0) ≡ false → filter test (take (i + 1) days) ≡ filter test (take i days)
-  unfolding filter
-  keep-no h e = rw (add-one, take-suc days i 0) (filter-append test (take i days) (getD days i 0 ∷ []) ∙ rw e (append-nil _))
-
-  kept-length : length (filter test (take i days)) ≤ length (filter test days)
-  kept-length =
-      let e = ap (filter test) (sym (take-append-drop i days)) ∙ filter-append test (take i days) (drop i days) in
-      omega (arith, simp length-append at (ap length e))
-
--- there is room for a day that is kept
-pub keep-room : (test : ℕ → Bool) (days : List ℕ) (i : ℕ) → i < length days → test (getD days i 0) ≡ true
-    → length (filter test (take i days)) < length (filter test days)
-keep-room test days i h e =
-    omega (arith, kept-length test days (i + 1), simp length-append at (ap length (keep-yes test days i h e)))
+use Rattle.readings.proofs.Sums.{sum-days, sum-drop, sum-drop-end}
 
 -- one day more in the first places of an array
-pub put-day : (places held : List ℕ) (n d : ℕ) → n < length places → take n places ≡ held → take (n + 1) (set places n d) ≡ held ++ d ∷ []
-put-day places held n d h e = rw (add-one, ← e) (take-suc-set places n d h)
+pub put-day : (places : List ℕ) (n d : ℕ) → n < length places → take (n + 1) (set places n d) ≡ take n places ++ d ∷ []
+put-day places n d h = rw add-one (take-suc-set places n d h)
 
--- An array whose places from i on are still those of another one. Places before them may be written.
-module _ (places before : List ℕ) (i : ℕ) (same : drop i places ≡ drop i before) where
-  pub same-here : getD places i 0 ≡ getD before i 0
-  same-here = simp (getD-drop, add-zero) at (ap (λ xs. getD xs 0 0) same)
+-- Those of the first i days that a test holds of stand in the first `count` of some places.
+pub record InFront (test : ℕ → Bool) (days : List ℕ) (size : ℕ) (places : List ℕ) (count i : ℕ) : Type 0 where
+  pub places-size : length places ≡ size
+  pub most : count ≤ i
+  pub counted : count ≡ length (filter test (take i days))
+  pub held : take count places ≡ filter test (take i days)
 
-  pub same-further : drop (i + 1) places ≡ drop (i + 1) before
-  same-further = sym (drop-drop 1 i places) ∙ ap (drop 1) same ∙ drop-drop 1 i before
+pub none-kept : {test : ℕ → Bool} {days : List ℕ} {size : ℕ} {places : List ℕ} → length places ≡ size → InFront test days size places 0 0
+unfolding filter
+none-kept h = record { places-size = h; most = omega arith; counted = refl; held = refl }
 
-  pub same-written : (n d : ℕ) → n ≤ i → drop (i + 1) (set places n d) ≡ drop (i + 1) before
-  same-written n d h = drop-set-lt (i + 1) places n d (omega arith) ∙ same-further
+module _ {test : ℕ → Bool} {days : List ℕ} {size : ℕ} {places : List ℕ} {count i : ℕ} (k : InFront test days size places count i) where
+  pub all-kept : length days ≤ i → (count ≡ length (filter test days)) × (take count places ≡ filter test days)
+  all-kept h = rw (← take-all i days h) (k .counted, k .held)
+
+  module _ (h : i < length days) where
+    one-more : filter test (take (i + 1) days) ≡ filter test (take i days) ++ filter test (getD days i 0 ∷ [])
+    one-more = rw (add-one, take-suc days i 0) (filter-append test (take i days) (getD days i 0 ∷ []))
+
+    pub dropped : test (getD days i 0) ≡ false → InFront test days size places count (i + 1)
+    unfolding filter
+    dropped e =
+        let same : filter test (take (i + 1) days) ≡ filter test (take i days) = one-more ∙ rw e (append-nil _) in
+        record { places-size = k .places-size; most = omega arith; counted = rw same (k .counted); held = rw same (k .held) }
+
+    module _ (e : test (getD days i 0) ≡ true) where
+      more : filter test (take (i + 1) days) ≡ filter test (take i days) ++ getD days i 0 ∷ []
+      unfolding filter
+      more = one-more ∙ rw e
+
+      counted-more : count + 1 ≡ length (filter test (take (i + 1) days))
+      counted-more = omega (arith, k .counted, simp length-append at (ap length more))
+
+      -- there is room for it
+      pub room : count < length (filter test days)
+      room =
+          let all = ap (filter test) (sym (take-append-drop (i + 1) days)) ∙ filter-append test (take (i + 1) days) (drop (i + 1) days) in
+          omega (arith, counted-more, simp length-append at (ap length all))
+
+      pub kept : count < size → InFront test days size (set places count (getD days i 0)) (count + 1) (i + 1)
+      kept n = record {
+        places-size = length-set places count _ ∙ k .places-size;
+        most = omega arith;
+        counted = counted-more;
+        held = put-day places count _ (omega (arith, k .places-size)) ∙ rw (more, k .held);
+      }
+
+-- Days kept in their own array: from place i on they are as they were. `left` is the sum of those that were not dropped.
+pub record InPlace (w : ℕ → ℕ) (test : ℕ → Bool) (days : List ℕ) (size : ℕ) (places : List ℕ) (count left i : ℕ) : Type 0 where
+  pub front : InFront test days size places count i
+  pub rest : drop i places ≡ drop i days
+  pub total : left ≡ sum (map w (take count places)) + sum (map w (drop i days))
+
+module _ {w : ℕ → ℕ} {test : ℕ → Bool} {days : List ℕ} {size : ℕ} {places : List ℕ} {count left i : ℕ}
+    (k : InPlace w test days size places count left i) where
+  pub here : getD places i 0 ≡ getD days i 0
+  here = simp (getD-drop, add-zero) at (ap (λ xs. getD xs 0 0) (k .rest))
+
+  further : drop (i + 1) places ≡ drop (i + 1) days
+  further = sym (drop-drop 1 i places) ∙ ap (drop 1) (k .rest) ∙ drop-drop 1 i days
+
+  pub total-end : length days ≤ i → left ≡ sum (map w (filter test days))
+  total-end h = k .total ∙ rw (sum-drop-end w days i h, add-zero, all-kept (k .front) h .1)
+
+  module _ (h : i < length days) where
+    pub parts : left ≡ sum (map w (take count places)) + (w (getD days i 0) + sum (map w (drop (i + 1) days)))
+    parts = k .total ∙ rw (sum-drop w days i h)
+
+    pub goes : test (getD days i 0) ≡ false → InPlace w test days size places count (left - w (getD days i 0)) (i + 1)
+    goes e = record { front = dropped (k .front) h e; rest = further; total = omega (arith, parts) }
+
+    pub stays : test (getD days i 0) ≡ true → count < size → InPlace w test days size (set places count (getD days i 0)) (count + 1) left (i + 1)
+    stays e n = record {
+      front = kept (k .front) h e n;
+      rest = drop-set-lt (i + 1) places count _ (omega (arith, k .front .most)) ∙ further;
+      total = rw (put-day places count (getD days i 0) (omega (arith, k .front .places-size)), sum-days w (take count places) (getD days i 0)) (omega (arith, parts));
+    }

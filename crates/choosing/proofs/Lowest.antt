@@ -9,10 +9,10 @@ use lib.Dec.{leb, eqb}
 use lib.ListN.{length, getD, drop, drop-of-length-le}
 use lib.Seq.{drop-cons}
 use borrow.Author.Tests.{le-leb, lt-leb, eq-eqb, ne-eqb, eqb-true, eqb-false}
-use Rattle.choosing.specs.Choosing.{lowest, used, chosen}
+use Rattle.choosing.specs.Choosing.{roundDays, daysUsed, lowest, used, chosen}
 use Rattle.choosing.specs.Days.{Rising, none, next}
-use Rattle.choosing.proofs.Rising.{In, here, there, without, without-length, rising-filter}
-use Rattle.choosing.proofs.Rounds.{standing-length, standing-rising}
+use Rattle.choosing.proofs.Rising.{Few, In, here, there, without, without-length, rising-filter}
+use Rattle.choosing.proofs.Rounds.{standing-few}
 
 module _ (w : ℕ → ℕ) where
   lowest-next : (low k : ℕ) (days : List ℕ) (t : Bool) → leb (w k) (w low) ≡ t → lowest w low (k ∷ days) ≡ lowest w (cond t k low) days
@@ -61,30 +61,17 @@ module _ (w : ℕ → ℕ) where
   four-left [] h r = absurd (omega arith)
   four-left (k ∷ days) h r = omega (arith, without-length r (lowest-in k days))
 
-  used-rising : {near far : ℕ} {days : List ℕ} → Rising near far days → Rising near far (used w days)
+  used-few : {near far : ℕ} {days : List ℕ} → Few roundDays near far days → Few daysUsed near far (used w days)
   unfolding used
-  used-rising (none l) = none l
-  used-rising {near} {far} (next {k = k} {days = days} l r) = go (eqb (length (k ∷ days)) 5) (next l r) (rising-filter _ (next l r))
+  used-few (h, none l) = (omega arith, none l)
+  used-few {near} {far} (h, next {k = k} {days = days} l r) = go (eqb (length (k ∷ days)) 5) refl (next l r)
     where
-      go : (t : Bool) {all left : List ℕ} → Rising near far all → Rising near far left → Rising near far (cond t left all)
-      go true p q = q
-      go false p q = p
-
-  used-length : {near far : ℕ} {days : List ℕ} → length days ≤ 5 → Rising near far days → length (used w days) ≤ 4
-  unfolding used
-  used-length h (none l) = omega arith
-  used-length {near} {far} h (next {k = k} {days = days} l r) = go (eqb (length (k ∷ days)) 5) refl
-    where
-      go : (t : Bool) → eqb (length (k ∷ days)) 5 ≡ t → length (cond t (without (lowest w k days) (k ∷ days)) (k ∷ days)) ≤ 4
-      go true p = omega (arith, four-left (k ∷ days) (eqb-true _ _ p) (next {near = near} {far = far} l r))
-      go false p = let n : length (k ∷ days) ≡ 5 → ⊥ = eqb-false _ _ p in omega arith
+      go : (t : Bool) → eqb (length (k ∷ days)) 5 ≡ t → Rising near far (k ∷ days)
+          → Few daysUsed near far (cond t (without (lowest w k days) (k ∷ days)) (k ∷ days))
+      go true p q = (omega (arith, four-left (k ∷ days) (eqb-true _ _ p) q), rising-filter _ q)
+      go false p q = let n : length (k ∷ days) ≡ 5 → ⊥ = eqb-false _ _ p in (omega arith, q)
 
   -- at most four days are chosen, nearest first and none twice
-  module _ {near far : ℕ} {days : List ℕ} (r : Rising near far days) where
-    pub chosen-rising : Rising near far (chosen w days)
-    unfolding chosen
-    chosen-rising = used-rising (standing-rising w r)
-
-    pub chosen-length : length (chosen w days) ≤ 4
-    unfolding chosen
-    chosen-length = used-length (standing-length w days) (standing-rising w r)
+  pub chosen-few : {near far : ℕ} {days : List ℕ} → Rising near far days → Few daysUsed near far (chosen w days)
+  unfolding chosen
+  chosen-few r = used-few (standing-few w r)

@@ -11,6 +11,10 @@ use borrow.Author.Tests.{eq-eqb, ne-eqb}
 use Rattle.numbers.specs.Lists.{filter}
 use Rattle.choosing.specs.Days.{Rising, none, next}
 
+-- at most n days, and they rise
+abbrev pub Few : ℕ → ℕ → ℕ → List ℕ → Type 0
+Few n near far days = (length days ≤ n) × Rising near far days
+
 pub rising-nearer : {near mid far : ℕ} {days : List ℕ} → near ≤ mid → Rising mid far days → Rising near far days
 rising-nearer h (none l) = none (le-trans h l)
 rising-nearer h (next l r) = next (lt-of-le-of-lt h l) r

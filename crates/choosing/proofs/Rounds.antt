@@ -2,6 +2,7 @@
 use mathlib.Core.Path.{_≡_, refl, ap, _∙_}
 use mathlib.Core.Bool.{Bool, true, false, cond}
 use mathlib.Core.List.{List, [], _∷_, _++_}
+use mathlib.Core.Logic.{_⊎_, inl, inr, ⊎-elim}
 use Prim.Native.Nat.{ℕ, zero, suc, _<_, _≤_}
 use native.Mathlib.Omega.{arith}
 use lib.Dec.{ltb, eqb}
@@ -9,30 +10,29 @@ use lib.ListN.{length, take, drop, length-append, length-take, length-drop}
 use lib.Seq.{take-at, drop-at, length-take-le}
 use borrow.Author.Tests.{eq-eqb, ne-eqb, lt-ltb, le-ltb, ltb-true, ltb-false, eqb-false}
 use Rattle.numbers.specs.Lists.{filter}
-use Rattle.choosing.specs.Choosing.{round, walk, standing}
+use Rattle.choosing.specs.Choosing.{roundDays, round, walk, standing}
 use Rattle.choosing.specs.Days.{Rising}
-use Rattle.choosing.proofs.Rising.{rising-filter, rising-append, rising-split, rising-take}
+use Rattle.choosing.proofs.Rising.{Few, rising-filter, rising-append, rising-split, rising-take}
 
-filter-length : (test : ℕ → Bool) (days : List ℕ) → length (filter test days) ≤ length days
+-- a test that all pass, or not
+filter-all-or-less : (test : ℕ → Bool) (days : List ℕ) → (filter test days ≡ days) ⊎ (length (filter test days) < length days)
 unfolding filter
-filter-length test [] = omega arith
-filter-length test (k ∷ days) = go (test k) (filter-length test days)
+filter-all-or-less test [] = inl refl
+filter-all-or-less test (k ∷ days) = go (test k) (filter-all-or-less test days)
   where
-    go : (t : Bool) → length (filter test days) ≤ length days → length (cond t (k ∷ filter test days) (filter test days)) ≤ suc (length days)
-    go true h = omega arith
-    go false h = omega arith
+    go : (t : Bool) {left : List ℕ} → (left ≡ days) ⊎ (length left < length days)
+        → (cond t (k ∷ left) left ≡ k ∷ days) ⊎ (length (cond t (k ∷ left) left) < suc (length days))
+    go true (inl e) = inl (ap (λ xs. k ∷ xs) e)
+    go true (inr l) = inr (omega arith)
+    go false (inl e) = inr (omega (arith, ap length e))
+    go false (inr l) = inr (omega arith)
 
--- a test that all pass
-pub filter-all : (test : ℕ → Bool) (days : List ℕ) → length (filter test days) ≡ length days → filter test days ≡ days
-unfolding filter
-filter-all test [] e = refl
-filter-all test (k ∷ days) e = go (test k) (filter-all test days) (filter-length test days) e
-  where
-    go : (t : Bool) → (length (filter test days) ≡ length days → filter test days ≡ days) → length (filter test days) ≤ length days
-        → length (cond t (k ∷ filter test days) (filter test days)) ≡ suc (length days)
-        → cond t (k ∷ filter test days) (filter test days) ≡ k ∷ days
-    go true r h q = ap (λ xs. k ∷ xs) (r (omega arith))
-    go false r h q = absurd (omega arith)
+module _ (test : ℕ → Bool) (days : List ℕ) where
+  filter-length : length (filter test days) ≤ length days
+  filter-length = ⊎-elim (λ e. omega (arith, ap length e)) (λ l. omega arith) (filter-all-or-less test days)
+
+  pub filter-all : length (filter test days) ≡ length days → filter test days ≡ days
+  filter-all h = ⊎-elim (λ e. e) (λ l. absurd (omega arith)) (filter-all-or-less test days)
 
 module _ (w : ℕ → ℕ) where
   pub round-length : (five : List ℕ) → length (round w five) ≤ length five
@@ -86,36 +86,21 @@ module _ (w : ℕ → ℕ) where
         once-more (five ++ rest) ∙ simp (le-ltb _ _ long, take-at five rest 5 h, drop-at five rest 5 h, ne-eqb _ _ n)
         (enough (length (five ++ rest)) (length (round w five ++ rest)) (round w five ++ rest) (simp length-append (omega (arith, round-length five))) (omega arith))
 
-  walk-length : (n : ℕ) (days : List ℕ) → length days ≤ n → length (walk w n days) ≤ 5
+  walk-few : {near far : ℕ} {days : List ℕ} (n : ℕ) → length days ≤ n → Rising near far days → Few roundDays near far (walk w n days)
   unfolding walk after
-  walk-length zero days h = omega arith
-  walk-length (suc n) days h =
-      go (ltb (length days) 5) (eqb (length (round w (take 5 days))) 5) refl refl (λ l. walk-length n (after days) (omega arith))
+  walk-few zero h r = (omega arith, r)
+  walk-few {near} {far} {days} (suc n) h r =
+      let q = rising-split 5 r in
+      go (ltb (length days) 5) (eqb (length (round w (take 5 days))) 5) refl refl
+      (λ l. walk-few n (omega arith) (rising-append (rising-filter _ (q .1)) (q .2)))
     where
       go : (a b : Bool) → ltb (length days) 5 ≡ a → eqb (length (round w (take 5 days))) 5 ≡ b
-          → (length (after days) < length days → length (walk w n (after days)) ≤ 5)
-          → length (cond a days (cond b (take 5 days) (walk w n (after days)))) ≤ 5
-      go true b p q r = let h : length days < 5 = ltb-true _ _ p in omega arith
-      go false true p q r = omega (arith, length-take 5 days)
-      go false false p q r = r (after-less days (ltb-false _ _ p) (eqb-false _ _ q))
+          → (length (after days) < length days → Few roundDays near far (walk w n (after days)))
+          → Few roundDays near far (cond a days (cond b (take 5 days) (walk w n (after days))))
+      go true b p q f = let l : length days < 5 = ltb-true _ _ p in (omega arith, r)
+      go false true p q f = (omega (arith, length-take 5 days), rising-take 5 r)
+      go false false p q f = f (after-less days (ltb-false _ _ p) (eqb-false _ _ q))
 
-  -- at most five days stand
-  pub standing-length : (days : List ℕ) → length (standing w days) ≤ 5
-  standing-length days = walk-length (length days) days (omega arith)
-
-  walk-rising : {near far : ℕ} {days : List ℕ} (n : ℕ) → Rising near far days → Rising near far (walk w n days)
-  unfolding walk
-  walk-rising zero r = r
-  walk-rising {near} {far} {days} (suc n) r =
-      let q = rising-split 5 r in
-      go (ltb (length days) 5) (eqb (length (round w (take 5 days))) 5)
-      (rising-take 5 r) (walk-rising n (rising-append (rising-filter _ (q .1)) (q .2)))
-    where
-      go : (a b : Bool) {five rest : List ℕ} → Rising near far five → Rising near far rest → Rising near far (cond a days (cond b five rest))
-      go true b p q = r
-      go false true p q = p
-      go false false p q = q
-
-  -- they are in the order of the days walked over, none twice
-  pub standing-rising : {near far : ℕ} {days : List ℕ} → Rising near far days → Rising near far (standing w days)
-  standing-rising {days = days} r = walk-rising (length days) r
+  -- at most five days stand, in the order of the days walked over and none twice
+  pub standing-few : {near far : ℕ} {days : List ℕ} → Rising near far days → Few roundDays near far (standing w days)
+  standing-few {days = days} r = walk-few (length days) (omega arith) r

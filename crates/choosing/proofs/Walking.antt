@@ -47,7 +47,7 @@ module _ {sums : List ℕ} {eligible : List Bool} {days : List ℕ} {count all k
       → Here sums eligible (set days count (k + 1)) (count + 1) (all + getD sums k 0) (k + 1)
   taken h n e =
       let more : take (count + 1) (set days count (k + 1)) ≡ take count days ++ (k + 1) ∷ []
-      = put-day days (take count days) count (k + 1) (omega arith) refl
+      = put-day days count (k + 1) (omega arith)
       in
       record {
         places = length-set days count (k + 1) ∙ here .places;

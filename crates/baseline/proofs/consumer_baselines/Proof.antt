@@ -1,6 +1,4 @@
 -- Too few days, or the baseline on the chosen ones.
-use mathlib.Core.Path.{sym}
-use native.Mathlib.Omega.{arith}
 use borrow.Author.Needs.{needs}
 use borrow.Author.Tests.{not-true, not-false}
 use Rattle.readings.proofs.Bounds.{earlier-use-bound}

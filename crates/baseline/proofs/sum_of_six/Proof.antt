@@ -1,30 +1,19 @@
 -- `sum_of_six` meets its contract. Assumes nothing.
+use mathlib.Core.Path.{sym}
+use Prim.Native.Nat.{_+_, _*_, _≤_}
 use native.Mathlib.Omega.{arith}
+use lib.ListN.{getD}
 use borrow.Author.Needs.{needs}
+use Rattle.numbers.specs.Slots.{windowSlots}
+use Rattle.readings.specs.Readings.{mostReading}
 use Rattle.readings.proofs.Sums.{six-places}
+use Rattle.choosing.specs.Choosing.{daysUsed}
 use Rattle.baseline.proofs.sum_of_six.Statement.{statement}
 use Rattle.baseline.proofs.sum_of_six.Tie as tie
 
-add-result : tie.Need-add-result
-add-result c = let p = c .pre in omega (arith, p 0, p 1, p 2, p 3, p 4, p 5)
-
-add-result-2 : tie.Need-add-result-2
-add-result-2 c = let p = c .pre in omega (arith, p 0, p 1, p 2, p 3, p 4, p 5)
-
-add-result-3 : tie.Need-add-result-3
-add-result-3 c = let p = c .pre in omega (arith, p 0, p 1, p 2, p 3, p 4, p 5)
-
-add-result-4 : tie.Need-add-result-4
-add-result-4 c = let p = c .pre in omega (arith, p 0, p 1, p 2, p 3, p 4, p 5)
-
-add-result-5 : tie.Need-add-result-5
-add-result-5 c = let p = c .pre in omega (arith, p 0, p 1, p 2, p 3, p 4, p 5)
-
-returns : tie.Need-returns
-returns c =
-    let p = c .pre in
-    let e = six-places (c .args .t1) (omega arith) in
-    (omega arith, omega (arith, p 0, p 1, p 2, p 3, p 4, p 5))
+-- the six together fit
+small : (c : tie.Start) → let at = getD (c .args .t1) in at 0 0 + at 1 0 + at 2 0 + at 3 0 + at 4 0 + at 5 0 ≤ windowSlots * (daysUsed * mostReading)
+small c = let p = c .pre in omega (arith, p 0, p 1, p 2, p 3, p 4, p 5)
 
 pub sum-of-six-spec : {M : Type 1} → statement M
 sum-of-six-spec =
@@ -32,13 +21,13 @@ sum-of-six-spec =
     (tie.spec
     (λ c. search needs)
     (λ c. search needs)
-    add-result
+    (λ c. omega (arith, small c))
     (λ c. search needs)
-    add-result-2
+    (λ c. omega (arith, small c))
     (λ c. search needs)
-    add-result-3
+    (λ c. omega (arith, small c))
     (λ c. search needs)
-    add-result-4
+    (λ c. omega (arith, small c))
     (λ c. search needs)
-    add-result-5
-    returns)
+    (λ c. omega (arith, small c))
+    (λ c. (sym (six-places (c .args .t1) (omega arith)), small c)))
