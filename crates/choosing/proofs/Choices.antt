@@ -1,11 +1,11 @@
 -- The answer on the days that stand. Assumes nothing.
-use mathlib.Core.Path.{_≡_, refl, sym, ap, _∙_}
+use mathlib.Core.Path.{_≡_, sym, ap, _∙_}
 use mathlib.Core.Bool.{true, false, not}
 use mathlib.Core.List.{List, [], _∷_}
 use Prim.Native.Nat.{ℕ, _<_, _≤_}
 use native.Mathlib.Omega.{arith}
 use lib.ListN.{length, getD, take, drop, replicate}
-use lib.Seq.{take-all}
+use lib.Seq.{take-suc, take-all}
 use borrow.Author.Tests.{lt-ltb, le-ltb, not-true, not-false}
 use Rattle.choosing.specs.Choosing.{standing, lowest, used, isFew, chosen}
 use Rattle.choosing.specs.Days.{Rising, Holds, choice}
@@ -38,11 +38,9 @@ four-chosen days h = simp (le-ltb (length days) 4 (omega arith))
 
 -- the first four places
 four-places : (days : List ℕ) → 4 ≤ length days → take 4 days ≡ getD days 0 0 ∷ getD days 1 0 ∷ getD days 2 0 ∷ getD days 3 0 ∷ []
-four-places [] h = absurd (omega arith)
-four-places (a ∷ []) h = absurd (omega arith)
-four-places (a ∷ b ∷ []) h = absurd (omega arith)
-four-places (a ∷ b ∷ c ∷ []) h = absurd (omega arith)
-four-places (a ∷ b ∷ c ∷ d ∷ days) h = refl
+four-places days h =
+    let one = take-suc days in
+    rw (one 3 0 (omega arith), one 2 0 (omega arith), one 1 0 (omega arith), one 0 0 (omega arith))
 
 module _ {w : ℕ → ℕ} (days : List ℕ) {r : Round} (stood : Holds w (standing w days) r) where
   pub none-enough : r .count < 4 → choice (chosen w days) ≡ record { enough = false; days = replicate 4 0 }

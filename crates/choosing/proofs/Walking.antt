@@ -1,7 +1,7 @@
 -- The walk over flags: what holds of the days in hand and the places not yet reached. Assumes nothing.
 use mathlib.Core.Path.{_≡_, refl, sym, ap, _∙_}
 use mathlib.Core.Bool.{Bool, true, false}
-use mathlib.Core.List.{List, [], _∷_, _++_, map, append-nil}
+use mathlib.Core.List.{List, _++_, map, append-nil}
 use Prim.Native.Nat.{ℕ, _+_, _*_, _-_, _<_, _≤_}
 use native.Mathlib.Nat.{le-refl}
 use native.Mathlib.Omega.{arith}
@@ -10,7 +10,7 @@ use lib.Seq.{take-all, append-snoc, length-take-le}
 use Rattle.numbers.specs.Lists.{sum}
 use Rattle.calendar.specs.Eligible.{ofDay}
 use Rattle.choosing.specs.Choosing.{round, standing}
-use Rattle.choosing.specs.Days.{daysFrom, Rising, none, next, Holds}
+use Rattle.choosing.specs.Days.{daysFrom, Rising, none, next, Holds, Stood}
 use Rattle.choosing.specs.declared.Round.{Round}
 use Rattle.choosing.proofs.Rising.{rising-farther, rising-append, rising-filter}
 use Rattle.choosing.proofs.Flags.{further, further-yes, further-no, further-end}
@@ -46,9 +46,7 @@ module _ {sums : List ℕ} {eligible : List Bool} {days : List ℕ} {count all k
   pub taken : k < length eligible → count < 5 → getD eligible k false ≡ true
       → Here sums eligible (set days count (k + 1)) (count + 1) (all + getD sums k 0) (k + 1)
   taken h n e =
-      let more : take (count + 1) (set days count (k + 1)) ≡ take count days ++ (k + 1) ∷ []
-      = put-day days count (k + 1) (omega arith)
-      in
+      let more = put-day days count (k + 1) (omega arith) in
       record {
         places = length-set days count (k + 1) ∙ here .places;
         few = omega arith;
@@ -68,12 +66,9 @@ module _ {sums : List ℕ} {eligible : List Bool} {days : List ℕ} {count all k
   }
 
   -- the days run out
-  pub ran-out : length eligible ≤ k → count < 5
-      → Holds (ofDay sums) (standing (ofDay sums) (daysFrom 1 eligible)) (record { days = days; count = count; all = all })
+  pub ran-out : length eligible ≤ k → count < 5 → Stood sums eligible (record { days = days; count = count; all = all })
   ran-out h n =
-      let e : standing (ofDay sums) (daysFrom 1 eligible) ≡ take count days
-      = (rw (further-end eligible k h, append-nil) at (here .same)) ∙ days-run-out (ofDay sums) (take count days) (rw in-hand n)
-      in
+      let e = (rw (further-end eligible k h, append-nil) at (here .same)) ∙ days-run-out (ofDay sums) (take count days) (rw in-hand n) in
       rw e (record { places = here .places; count = sym in-hand; held = refl; all = here .total })
 
   -- five in hand, and what a round leaves of them
@@ -95,8 +90,7 @@ module _ {sums : List ℕ} {eligible : List Bool} {days : List ℕ} {count all k
       same-five = rw all-five at (here .same)
 
       -- the five are still in their places
-      pub stopped : left .count ≡ 5
-          → Holds (ofDay sums) (standing (ofDay sums) (daysFrom 1 eligible)) (record { days = left .days; count = left .count; all = all })
+      pub stopped : left .count ≡ 5 → Stood sums eligible (record { days = left .days; count = left .count; all = all })
       stopped e =
           let s = same-five ∙ none-dropped (ofDay sums) days (further eligible k) (here .places) (sym (holds .count) ∙ e) in
           let none : round (ofDay sums) days ≡ days = filter-all _ days (omega (arith, holds .count)) in

@@ -1,7 +1,7 @@
 -- `chosen_days` meets its contract. Assumes nothing.
 use mathlib.Core.Path.{_≡_, _∙_}
-use native.Mathlib.Omega.{arith}
 use borrow.Author.Needs.{needs}
+use Rattle.numbers.specs.Slots.{daysBack}
 use Rattle.calendar.specs.Eligible.{isEligible}
 use Rattle.baseline.specs.Baseline.{chosenDays}
 use Rattle.choosing.specs.Days.{choice}
@@ -13,24 +13,21 @@ use Rattle.baseline.proofs.chosen_days.Tie as tie
 
 choose-requires : tie.Need-choose-requires
 choose-requires c κs =
-    let s = c .before .before .before .before in
-    record { thirty = search needs; small = rw (c .before .window-sums .ensures) (window-sums-bound _ (s .pre .1 .small) _ (omega arith)) }
+    let at-sums = c .before in
+    let tested = at-sums .before .before .before .pre .1 in
+    record { thirty = search needs; small = rw (at-sums .window-sums .ensures) (window-sums-bound _ (tested .small) _ (tested .last)) }
 
 returns : tie.Need-returns
 returns c =
-    let a = c .before .before .before .before .before .args in
+    let at-sums = c .before .before in
+    let at-eligible = at-sums .before in
+    let a = at-eligible .before .before .args in
+    let flags = flags-filter (isEligible (a .test) (a .marks)) 1 daysBack in
     let found : c .choose .result ≡ choice (chosenDays (a .test) (a .marks) (a .readings .now) (a .slot))
-    = c .choose .ensures
-    ∙ rw (c .before .before .window-sums .ensures, c .before .before .before .eligible-days .ensures, flags-filter (isEligible (a .test) (a .marks)) 1 30)
+    = c .choose .ensures ∙ rw (at-sums .window-sums .ensures, at-eligible .eligible-days .ensures, flags)
     in
     (found, λ i. rw found (choice-back _ (chosen-days-back (a .test) (a .marks) (a .readings .now) (a .slot)) i))
 
 pub chosen-days-spec : {M : Type 1} → statement M
 chosen-days-spec =
-    tie.close
-    (tie.spec
-    (λ c κs. search needs)
-    (λ c κs. search needs)
-    (λ c. search needs)
-    choose-requires
-    returns)
+    tie.close (tie.spec (λ c κs. search needs) (λ c κs. search needs) (λ c. search needs) choose-requires returns)

@@ -2,7 +2,6 @@
 use borrow.Author.Needs.{needs}
 use borrow.Author.Tests.{not-true, not-false}
 use Rattle.readings.proofs.Bounds.{earlier-use-bound}
-use Rattle.baseline.specs.Baseline.{chosenDays}
 use Rattle.baseline.specs.Consumers.{baselinesOn}
 use Rattle.baseline.proofs.Bounds.{chosen-sums-bound}
 use Rattle.choosing.proofs.Choices.{few-days, four-days}
@@ -11,11 +10,7 @@ use Rattle.baseline.proofs.consumer_baselines.Tie as tie
 
 returns : tie.Need-returns
 unfolding baselinesOn
-returns c =
-    let at-chosen = c .before in
-    let a = at-chosen .before .before .args in
-    let days = chosenDays (a .test) (a .marks) (a .readings .now) (a .slot) in
-    rw (few-days days _ (at-chosen .chosen-days .ensures .0) (not-true _ (c .if1 .taken)))
+returns c = rw (few-days _ _ (c .before .chosen-days .ensures .0) (not-true _ (c .if1 .taken)))
 
 baselines-of-requires : tie.Need-baselines-of-requires
 baselines-of-requires c κs =
@@ -23,8 +18,7 @@ baselines-of-requires c κs =
     let at-entry = at-test .before .before .before in
     let a = at-entry .args in
     let tested = at-entry .pre .1 in
-    let days = chosenDays (a .test) (a .marks) (a .readings .now) (a .slot) in
-    let four = four-days days _ (at-test .before .chosen-days .ensures .0) (not-false _ (at-test .if1 .left)) in (
+    let four = four-days _ _ (at-test .before .chosen-days .ensures .0) (not-false _ (at-test .if1 .left)) in (
       rw (c .before .day-sums .ensures, four .1) (chosen-sums-bound (a .test) (a .marks) _ (a .slot) (tested .small) (tested .last)),
       rw (c .earlier-use .ensures) (earlier-use-bound _ (tested .small) _ (tested .last)),
     )
@@ -34,9 +28,7 @@ unfolding baselinesOn
 returns-2 c =
     let at-sums = c .before .before in
     let at-test = at-sums .before .before in
-    let a = at-test .before .before .before .args in
-    let days = chosenDays (a .test) (a .marks) (a .readings .now) (a .slot) in
-    let four = four-days days _ (at-test .before .chosen-days .ensures .0) (not-false _ (at-test .if1 .left)) in
+    let four = four-days _ _ (at-test .before .chosen-days .ensures .0) (not-false _ (at-test .if1 .left)) in
     rw (c .baselines-of .ensures, at-sums .day-sums .ensures, c .before .earlier-use .ensures, four .1, four .0)
 
 pub consumer-baselines-spec : {M : Type 1} → statement M
