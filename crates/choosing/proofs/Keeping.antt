@@ -87,9 +87,12 @@ module _ {w : ℕ → ℕ} {test : ℕ → Bool} {days : List ℕ} {size : ℕ} 
     pub goes : test (getD days i 0) ≡ false → InPlace w test days size places count (left - w (getD days i 0)) (i + 1)
     goes e = record { front = dropped (k .front) h e; rest = further; total = omega (arith, parts) }
 
-    pub stays : test (getD days i 0) ≡ true → count < size → InPlace w test days size (set places count (getD days i 0)) (count + 1) left (i + 1)
+    pub stays : test (getD days i 0) ≡ true → count < size
+        → InPlace w test days size (set places count (getD days i 0)) (count + 1) left (i + 1)
     stays e n = record {
       front = kept (k .front) h e n;
       rest = drop-set-lt (i + 1) places count _ (omega (arith, k .front .most)) ∙ further;
-      total = rw (put-day places count (getD days i 0) (omega (arith, k .front .places-size)), sum-days w (take count places) (getD days i 0)) (omega (arith, parts));
+      total =
+          let more = put-day places count (getD days i 0) (omega (arith, k .front .places-size)) in
+          rw (more, sum-days w (take count places) (getD days i 0)) (omega (arith, parts));
     }

@@ -83,8 +83,10 @@ module _ (w : ℕ → ℕ) where
     pub some-dropped : (length (round w five) ≡ 5 → ⊥) → standing w (five ++ rest) ≡ standing w (round w five ++ rest)
     unfolding walk
     some-dropped n =
+        let left = round w five ++ rest in
+        let less : length left ≤ length (five ++ rest) = simp length-append (omega (arith, round-length five)) in
         once-more (five ++ rest) ∙ simp (le-ltb _ _ long, take-at five rest 5 h, drop-at five rest 5 h, ne-eqb _ _ n)
-        (enough (length (five ++ rest)) (length (round w five ++ rest)) (round w five ++ rest) (simp length-append (omega (arith, round-length five))) (omega arith))
+        (enough (length (five ++ rest)) (length left) left less (omega arith))
 
   walk-few : {near far : ℕ} {days : List ℕ} (n : ℕ) → length days ≤ n → Rising near far days → Few roundDays near far (walk w n days)
   unfolding walk after

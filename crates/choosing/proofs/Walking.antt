@@ -79,7 +79,7 @@ module _ {sums : List ℕ} {eligible : List Bool} {days : List ℕ} {count all k
     pub five-rising : Rising 0 k days
     five-rising = rw all-five at (here .rising)
 
-    pub five-total : all ≡ sum (map (ofDay sums) days)
+    five-total : all ≡ sum (map (ofDay sums) days)
     five-total = rw all-five at (here .total)
 
     pub five-held : Holds (ofDay sums) days (record { days = days; count = count; all = all })

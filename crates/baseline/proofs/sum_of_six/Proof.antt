@@ -12,7 +12,8 @@ use Rattle.baseline.proofs.sum_of_six.Statement.{statement}
 use Rattle.baseline.proofs.sum_of_six.Tie as tie
 
 -- the six together fit
-small : (c : tie.Start) → let at = getD (c .args .t1) in at 0 0 + at 1 0 + at 2 0 + at 3 0 + at 4 0 + at 5 0 ≤ windowSlots * (daysUsed * mostReading)
+small : (c : tie.Start)
+    → let at = getD (c .args .t1) in at 0 0 + at 1 0 + at 2 0 + at 3 0 + at 4 0 + at 5 0 ≤ windowSlots * (daysUsed * mostReading)
 small c = let p = c .pre in omega (arith, p 0, p 1, p 2, p 3, p 4, p 5)
 
 pub sum-of-six-spec : {M : Type 1} → statement M

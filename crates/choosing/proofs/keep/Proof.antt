@@ -38,13 +38,14 @@ loop-holds c =
     (search needs, record { front = none-kept (p .places); rest = refl; total = p .all ∙ sym (zero-add _) })
 
 -- the day in hand
-in-range : (c : tie.In-loop Inv-loop μ-loop) → let day = getD (c .before .loop .days) (c .before .loop .i) 0 in (0 < day) × (day ≤ daysBack)
+in-range : (c : tie.In-loop Inv-loop μ-loop)
+    → let day = getD (c .before .loop .days) (c .before .loop .i) 0 in (0 < day) × (day ≤ daysBack)
 in-range c = let l = c .before .loop in rw (here (l .inv .1)) (rising-at (l .i) (omega arith) (c .before .before .pre .rising))
 
 mul-if1 : tie.Need-mul-if1 Inv-loop μ-loop
 mul-if1 c =
-    let l = c .before .before .before .loop in
-    omega (arith, c .before .before .before .before .pre .windows .small (getD (l .days) (l .i) 0 - 1))
+    let at-loop = c .before .before .before in
+    omega (arith, at-loop .before .pre .windows .small (getD (at-loop .loop .days) (at-loop .loop .i) 0 - 1))
 
 sub-left : tie.Need-sub-left Inv-loop μ-loop
 sub-left c =
@@ -53,8 +54,9 @@ sub-left c =
 
 loop-again : tie.Need-loop-again Inv-loop μ-loop
 loop-again c =
-    let a = c .before .before .before .before .before .args in
-    let l = c .before .before .before .before .loop in
+    let at-loop = c .before .before .before .before in
+    let a = at-loop .before .args in
+    let l = at-loop .loop in
     let k = l .inv .1 in
     let w = ofDay (a .sums .now) in
     let d = getD (a .days .now) (l .i) 0 in

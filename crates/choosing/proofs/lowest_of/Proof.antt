@@ -15,7 +15,10 @@ use Rattle.choosing.proofs.lowest_of.Tie as tie
 
 abbrev Inv-loop : tie.InvT-loop
 Inv-loop sums days low₀ i₀ low i =
-    (i ≤ roundDays) × (0 < low) × (low ≤ daysBack) × (lowest (ofDay sums) (getD days 0 0) (drop 1 days) ≡ lowest (ofDay sums) low (drop i days))
+    (i ≤ roundDays)
+    × (0 < low)
+    × (low ≤ daysBack)
+    × (lowest (ofDay sums) (getD days 0 0) (drop 1 days) ≡ lowest (ofDay sums) low (drop i days))
 
 abbrev μ-loop : tie.MeasureT-loop
 μ-loop sums days low₀ i₀ low i = roundDays - i

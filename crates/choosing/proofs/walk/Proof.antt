@@ -13,7 +13,8 @@ use Rattle.choosing.proofs.walk.Statement.{statement}
 use Rattle.choosing.proofs.walk.Tie as tie
 
 abbrev Inv-loop : tie.InvT-loop
-Inv-loop sums eligible days₀ all₀ stood₀ k₀ count₀ days all stood k count = (k ≤ daysBack) × (count + k₀ ≤ count₀ + k) × Here sums eligible days count all k
+Inv-loop sums eligible days₀ all₀ stood₀ k₀ count₀ days all stood k count =
+    (k ≤ daysBack) × (count + k₀ ≤ count₀ + k) × Here sums eligible days count all k
 
 abbrev μ-loop : tie.MeasureT-loop
 μ-loop sums eligible days₀ all₀ stood₀ k₀ count₀ days all stood k count = daysBack - k
