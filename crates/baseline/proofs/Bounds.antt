@@ -4,7 +4,7 @@ use mathlib.Core.Bool.{Bool, true, false, cond}
 use mathlib.Core.List.{List}
 use Prim.Native.Nat.{ℕ, zero, suc, _*_, _≤_}
 use native.Mathlib.Omega.{arith}
-use lib.ListN.{replicate}
+use lib.ListN.{length, replicate}
 use Rattle.numbers.specs.Lists.{run}
 use Rattle.numbers.specs.Slots.{daysBack}
 use Rattle.numbers.proofs.Filling.{run-length}
@@ -15,26 +15,22 @@ use Rattle.choosing.specs.Choosing.{daysUsed, isFew}
 use Rattle.baseline.specs.Baseline.{chosenDays, daySums, baselineOn}
 use Rattle.choosing.specs.Days.{choice}
 use Rattle.baseline.specs.Consumers.{Sums}
-use Rattle.choosing.proofs.Rising.{Few, rising-far}
 use Rattle.choosing.proofs.Flags.{flags-rising, flags-filter}
 use Rattle.choosing.proofs.Lowest.{chosen-few}
 
 module _ (test : ℕ) (marks readings : List ℕ) (s : ℕ) where
-  chosen-days-few : Few daysUsed 0 daysBack (chosenDays test marks readings s)
+  pub chosen-days-few : (length (chosenDays test marks readings s) ≤ daysUsed) × Back (chosenDays test marks readings s)
   chosen-days-few =
       let eligible = isEligible test marks in
       rw (← flags-filter eligible 1 daysBack)
       (chosen-few (ofDay (windowSums readings s)) (flags-rising (run eligible 1 daysBack) (omega (arith, run-length eligible 1 daysBack))))
-
-  pub chosen-days-back : Back (chosenDays test marks readings s)
-  chosen-days-back i = rising-far i (chosen-days-few .1)
 
   -- the sums over them, and the baseline
   module _ (fits : firstLarge readings readingCount ≡ readingCount) (h : s ≤ lastWindow) where
     pub chosen-sums-bound : Sums (daySums readings (chosenDays test marks readings s) s)
     unfolding daySums
     chosen-sums-bound =
-        let within = slot-sums-bound readings fits _ (chosen-days-few .0) chosen-days-back in
+        let within = slot-sums-bound readings fits _ (chosen-days-few .0) (chosen-days-few .1) in
         record { window = within s h; earlier = within (earlierSlot s) (omega arith) }
 
     pub baseline-bound : (j : ℕ) → baselineOn readings (chosenDays test marks readings s) s j ≤ 48 * mostReading

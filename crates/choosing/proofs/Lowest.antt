@@ -10,8 +10,8 @@ use lib.ListN.{length, getD, drop, drop-of-length-le}
 use lib.Seq.{drop-cons}
 use borrow.Author.Tests.{le-leb, lt-leb, eq-eqb, ne-eqb, eqb-true, eqb-false}
 use Rattle.choosing.specs.Choosing.{roundDays, daysUsed, lowest, used, chosen}
-use Rattle.choosing.specs.Days.{Rising, none, next}
-use Rattle.choosing.proofs.Rising.{Few, In, here, there, without, without-length, rising-filter}
+use Rattle.choosing.specs.Days.{AtMost, Rising, none, next}
+use Rattle.choosing.proofs.Rising.{Few, In, here, there, without, without-length, rising-filter, rising-far}
 use Rattle.choosing.proofs.Rounds.{standing-few}
 
 module _ (w : ℕ → ℕ) where
@@ -71,7 +71,7 @@ module _ (w : ℕ → ℕ) where
       go true p q = (omega (arith, four-left (k ∷ days) (eqb-true _ _ p) q), rising-filter _ q)
       go false p q = let n : length (k ∷ days) ≡ 5 → ⊥ = eqb-false _ _ p in (omega arith, q)
 
-  -- at most four days are chosen, nearest first and none twice
-  pub chosen-few : {near far : ℕ} {days : List ℕ} → Rising near far days → Few daysUsed near far (chosen w days)
+  -- at most four days are chosen, none farther than the days chosen from
+  pub chosen-few : {near far : ℕ} {days : List ℕ} → Rising near far days → (length (chosen w days) ≤ daysUsed) × AtMost far (chosen w days)
   unfolding chosen
-  chosen-few r = used-few (standing-few w r)
+  chosen-few r = let few = used-few (standing-few w r) in (few .0, λ i. rising-far i (few .1))
