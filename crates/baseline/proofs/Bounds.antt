@@ -1,4 +1,4 @@
--- How far back the chosen days are. Assumes nothing.
+-- How far back the chosen days are, and how large the sums over them and the baseline. Assumes nothing.
 use mathlib.Core.Path.{_≡_}
 use mathlib.Core.Bool.{Bool, true, false, cond}
 use mathlib.Core.List.{List}
@@ -18,6 +18,14 @@ use Rattle.baseline.specs.Consumers.{Sums}
 use Rattle.choosing.proofs.Flags.{flags-rising, flags-filter}
 use Rattle.choosing.proofs.Lowest.{chosen-few}
 
+-- sums over at most four days, of which none is farther than thirty
+pub day-sums-bound : (readings : List ℕ) → firstLarge readings readingCount ≡ readingCount → (days : List ℕ) → length days ≤ daysUsed → Back days
+    → (s : ℕ) → s ≤ lastWindow → Sums (daySums readings days s)
+unfolding daySums
+day-sums-bound readings fits days few back s h =
+    let within = slot-sums-bound readings fits days few back in
+    record { window = within s h; earlier = within (earlierSlot s) (omega arith) }
+
 module _ (test : ℕ) (marks readings : List ℕ) (s : ℕ) where
   pub chosen-days-few : (length (chosenDays test marks readings s) ≤ daysUsed) × Back (chosenDays test marks readings s)
   chosen-days-few =
@@ -25,16 +33,11 @@ module _ (test : ℕ) (marks readings : List ℕ) (s : ℕ) where
       rw (← flags-filter eligible 1 daysBack)
       (chosen-few (ofDay (windowSums readings s)) (flags-rising (run eligible 1 daysBack) (omega (arith, run-length eligible 1 daysBack))))
 
-  -- the sums over them, and the baseline
-  module _ (fits : firstLarge readings readingCount ≡ readingCount) (h : s ≤ lastWindow) where
-    pub chosen-sums-bound : Sums (daySums readings (chosenDays test marks readings s) s)
-    unfolding daySums
-    chosen-sums-bound =
-        let within = slot-sums-bound readings fits _ (chosen-days-few .0) (chosen-days-few .1) in
-        record { window = within s h; earlier = within (earlierSlot s) (omega arith) }
-
-    pub baseline-bound : (j : ℕ) → baselineOn readings (chosenDays test marks readings s) s j ≤ 48 * mostReading
-    baseline-bound j = omega (arith, chosen-sums-bound .window j, earlier-use-bound readings fits s h)
+  pub baseline-bound : firstLarge readings readingCount ≡ readingCount → s ≤ lastWindow
+      → (j : ℕ) → baselineOn readings (chosenDays test marks readings s) s j ≤ 48 * mostReading
+  baseline-bound fits h j =
+      let sums = day-sums-bound readings fits (chosenDays test marks readings s) (chosen-days-few .0) (chosen-days-few .1) s h in
+      omega (arith, sums .window j, earlier-use-bound readings fits s h)
 
 zeros-back : (n : ℕ) → Back (replicate n 0)
 zeros-back zero i = omega arith

@@ -1,6 +1,6 @@
 -- The days of flags, one day more. Assumes nothing.
 use mathlib.Core.Path.{_≡_, refl}
-use mathlib.Core.Bool.{Bool, true, false}
+use mathlib.Core.Bool.{Bool, true, false, cond}
 use mathlib.Core.List.{List, [], _∷_}
 use Prim.Native.Nat.{ℕ, zero, suc, _+_, _<_, _≤_}
 use native.Mathlib.Numerals.{add-one}
@@ -17,13 +17,10 @@ abbrev pub further : List Bool → ℕ → List ℕ
 further flags k = daysFrom (k + 1) (drop k flags)
 
 module _ (flags : List Bool) (k : ℕ) where
-  pub further-yes : k < length flags → getD flags k false ≡ true → further flags k ≡ (k + 1) ∷ further flags (k + 1)
+  pub further-next : k < length flags
+      → further flags k ≡ cond (getD flags k false) ((k + 1) ∷ further flags (k + 1)) (further flags (k + 1))
   unfolding daysFrom
-  further-yes h e = rw (add-one, add-one, drop-cons flags k false, e)
-
-  pub further-no : k < length flags → getD flags k false ≡ false → further flags k ≡ further flags (k + 1)
-  unfolding daysFrom
-  further-no h e = rw (add-one, add-one, drop-cons flags k false, e)
+  further-next h = rw (add-one, add-one, drop-cons flags k false h)
 
   pub further-end : length flags ≤ k → further flags k ≡ []
   unfolding daysFrom

@@ -13,7 +13,7 @@ use Rattle.choosing.specs.Choosing.{round, standing}
 use Rattle.choosing.specs.Days.{daysFrom, Rising, none, next, Holds, Stood}
 use Rattle.choosing.specs.declared.Round.{Round}
 use Rattle.choosing.proofs.Rising.{rising-farther, rising-append, rising-filter}
-use Rattle.choosing.proofs.Flags.{further, further-yes, further-no, further-end}
+use Rattle.choosing.proofs.Flags.{further, further-next, further-end}
 use Rattle.choosing.proofs.Keeping.{put-day}
 use Rattle.readings.proofs.Sums.{sum-days, days-within}
 use Rattle.choosing.proofs.Rounds.{round-length, filter-all, days-run-out, none-dropped, some-dropped}
@@ -52,7 +52,7 @@ module _ {sums : List ℕ} {eligible : List Bool} {days : List ℕ} {count all k
         few = omega arith;
         total = rw (more, sum-days (ofDay sums) (take count days) (k + 1), at-place) (ap (λ a. a + getD sums k 0) (here .total));
         rising = rw more (rising-append (here .rising) (next (let l : k < k + 1 = omega arith in l) (none (le-refl (k + 1)))));
-        same = rw (more, append-snoc) (rw (further-yes eligible k h e) at (here .same));
+        same = rw (more, append-snoc) (rw (further-next eligible k h, e) at (here .same));
       }
 
   -- a day that is not
@@ -62,7 +62,7 @@ module _ {sums : List ℕ} {eligible : List Bool} {days : List ℕ} {count all k
     few = here .few;
     total = here .total;
     rising = rising-farther (let l : k ≤ k + 1 = omega arith in l) (here .rising);
-    same = rw (further-no eligible k h e) at (here .same);
+    same = rw (further-next eligible k h, e) at (here .same);
   }
 
   -- the days run out

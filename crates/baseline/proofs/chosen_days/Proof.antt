@@ -1,12 +1,13 @@
 -- `chosen_days` meets its contract. Assumes nothing.
 use mathlib.Core.Path.{_≡_, _∙_}
+use native.Mathlib.Omega.{arith}
 use borrow.Author.Needs.{needs}
 use Rattle.numbers.specs.Slots.{daysBack}
 use Rattle.calendar.specs.Eligible.{isEligible}
-use Rattle.baseline.specs.Baseline.{chosenDays}
+use Rattle.readings.proofs.Bounds.{window-sums-bound}
 use Rattle.choosing.specs.Days.{choice}
 use Rattle.choosing.proofs.Flags.{flags-filter}
-use Rattle.readings.proofs.Bounds.{window-sums-bound}
+use Rattle.baseline.specs.Baseline.{chosenDays}
 use Rattle.baseline.proofs.Bounds.{chosen-days-few, choice-back}
 use Rattle.baseline.proofs.chosen_days.Statement.{statement}
 use Rattle.baseline.proofs.chosen_days.Tie as tie
@@ -14,8 +15,8 @@ use Rattle.baseline.proofs.chosen_days.Tie as tie
 choose-requires : tie.Need-choose-requires
 choose-requires c κs =
     let at-sums = c .before in
-    let tested = at-sums .before .before .before .pre .1 in
-    record { thirty = search needs; small = rw (at-sums .window-sums .ensures) (window-sums-bound _ (tested .small) _ (tested .last)) }
+    let small = at-sums .before .before .before .pre .1 .small in
+    record { thirty = search needs; small = rw (at-sums .window-sums .ensures) (window-sums-bound _ small _ (omega arith)) }
 
 returns : tie.Need-returns
 returns c =

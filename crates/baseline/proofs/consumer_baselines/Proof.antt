@@ -1,10 +1,14 @@
 -- Too few days, or the baseline on the chosen ones.
+use mathlib.Core.Path.{_≡_}
+use native.Mathlib.Omega.{arith}
+use lib.ListN.{length}
 use borrow.Author.Needs.{needs}
 use borrow.Author.Tests.{not-true, not-false}
 use Rattle.readings.proofs.Bounds.{earlier-use-bound}
-use Rattle.baseline.specs.Consumers.{baselinesOn}
-use Rattle.baseline.proofs.Bounds.{chosen-sums-bound}
+use Rattle.choosing.specs.Choosing.{daysUsed}
 use Rattle.choosing.proofs.Choices.{few-days, four-days}
+use Rattle.baseline.specs.Consumers.{baselinesOn}
+use Rattle.baseline.proofs.Bounds.{day-sums-bound}
 use Rattle.baseline.proofs.consumer_baselines.Statement.{statement}
 use Rattle.baseline.proofs.consumer_baselines.Tie as tie
 
@@ -14,13 +18,12 @@ returns c = rw (few-days _ _ (c .before .chosen-days .ensures .0) (not-true _ (c
 
 baselines-of-requires : tie.Need-baselines-of-requires
 baselines-of-requires c κs =
-    let at-test = c .before .before .before in
-    let at-entry = at-test .before .before .before in
-    let a = at-entry .args in
-    let tested = at-entry .pre .1 in
-    let four = four-days _ _ (at-test .before .chosen-days .ensures .0) (not-false _ (at-test .if1 .left)) in (
-      rw (c .before .day-sums .ensures, four .1) (chosen-sums-bound (a .test) (a .marks) _ (a .slot) (tested .small) (tested .last)),
-      rw (c .earlier-use .ensures) (earlier-use-bound _ (tested .small) _ (tested .last)),
+    let at-chosen = c .before .before .before .before in
+    let small = at-chosen .before .before .pre .1 .small in
+    let days = at-chosen .chosen-days in
+    let four : length (days .result .days) ≡ daysUsed = search needs in (
+      rw (c .before .day-sums .ensures) (day-sums-bound _ small (days .result .days) (omega arith) (days .ensures .1) _ (omega arith)),
+      rw (c .earlier-use .ensures) (earlier-use-bound _ small _ (omega arith)),
     )
 
 returns-2 : tie.Need-returns-2
