@@ -51,16 +51,10 @@ returns-2 c =
     let few = days-lack _ _ (kindOf (start (c .before .before .before .before) .args .tag)) _ (c .before .results-of .ensures) (c .if2 .taken) in
     refused _ _ _ _ (facts (c .before .before .before .before) .days ∙ simp few) (λ z. omega arith)
 
-put-requires : tie.Need-put-requires
-put-requires c κs = facts (passed (c .before .before)) .given .six
-
 add-totals-requires : tie.Need-add-totals-requires
 add-totals-requires c κs =
     let at = c .before .before .before .before .before in
     λ i. rw (c .slot-totals .ensures, found at) (facts (passed at) .sums i)
-
-number-of-requires : tie.Need-number-of-requires
-number-of-requires c κs = facts (passed (c .before .before .before .before .before .before)) .numbered
 
 add-next : tie.Need-add-next
 add-next c = record { fits = facts (passed (c .before .before .before .before .before .before .before .before)) .next }
@@ -81,10 +75,10 @@ add-spec =
     returns
     results-of-requires
     returns-2
-    put-requires
+    (λ c κs. facts (passed (c .before .before)) .given .six)
     (λ c κs. search needs)
     add-totals-requires
-    number-of-requires
+    (λ c κs. facts (passed (c .before .before .before .before .before .before)) .numbered)
     add-next
     (λ c. search needs)
     returns-3)

@@ -20,9 +20,6 @@ returns-2 : tie.Need-returns-2
 unfolding closingRefusal closeOf
 returns-2 c = rw (c .no-figures2 .ensures) (simp (not-unsound (c .before .before .before .before), lt-ltb _ _ (c .before .if2 .taken)))
 
-figures-of-requires : tie.Need-figures-of-requires
-figures-of-requires c κs = rw (c .slot-totals .ensures) (total-small _ (sound _ (not-unsound (c .before .before .before .before))))
-
 returns-3 : tie.Need-returns-3
 unfolding closingRefusal closeOf
 returns-3 c = rw (c .figures-of .ensures, c .before .slot-totals .ensures) (simp (not-unsound (c .before .before .before .before .before), le-ltb _ _ (c .before .before .if2 .left)))
@@ -37,5 +34,5 @@ close-spec =
     (λ c κs. search needs)
     returns-2
     (λ c κs. search needs)
-    figures-of-requires
+    (λ c κs. rw (c .slot-totals .ensures) (total-small _ (sound _ (not-unsound (c .before .before .before .before)))))
     returns-3)
