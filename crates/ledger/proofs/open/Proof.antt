@@ -15,7 +15,6 @@ accepted c = sym (c .before .opening-refusal .ensures) ∙ c .if1 .left
 
 returns : tie.Need-returns
 returns c =
-    let s = c .before .before .before .before .before in
     let e = c .before .before .opening-refusal .ensures in
     rw (c .no-state .ensures, e) (sym (open-bad _ _ (rw e at (c .before .if1 .taken))))
 
