@@ -28,10 +28,12 @@ use Rattle.account.proofs.Sums.{sum-append, sum-plus}
 use Rattle.figures.proofs.SlotTotals.{plus-length}
 use Rattle.account.proofs.Rounding.{whole, compared}
 use Rattle.heads.proofs.Opening.{opens}
-use Rattle.ledger.proofs.Taking.{takes, six-quotients, six-results}
+use Rattle.results.proofs.Bounds.{six-by, six-results}
+use Rattle.ledger.proofs.Taking.{takes}
 use Rattle.account.proofs.Divisors.{goes-by, wh-pos, wholes}
-use Rattle.ledger.proofs.Sound.{Sound, open-good, open-bad, opened-sound, add-good, add-bad, adding-sound, taken-sound, close-good, close-bad, closing-sound, nothing-taken, nothing-closed}
-use Rattle.ledger.specs.Calls.{Call, adding, closing, refused, closed, replyOf, replies, program}
+use Rattle.ledger.proofs.Sound.{Sound, open-good, open-bad, opened-sound, add-good, add-bad, adding-sound, taken-sound, close-good, close-bad, closing-sound}
+use Rattle.calls.proofs.Nine.{nothing-taken, nothing-closed}
+use Rattle.calls.specs.Calls.{Call, adding, closing, refused, closed, replyOf, replies, program}
 
 -- ---- what holds between the state, the account and the points taken, after any calls
 
@@ -75,8 +77,8 @@ module _ (state : State) (sum : ℤ) (ps : List Point) (a : Along state sum ps) 
   along-taken tag value places e =
       let more = one-more (state .head) (state .marks) ps (record { tag = tag; value = value }) in
       let g = takes (state .head) (state .points) (state .last) tag value places (state .marks) e in
-      let results-six = six-results g (state .marks) in
-      let quotients-six = six-quotients g (state .marks) in
+      let results-six = six-results (state .head) (state .marks) (kindOf tag) value (g .known) in
+      let quotients-six = six-by (state .head) (state .marks) (kindOf tag) value (g .known) in
       record {
         sound = taken-sound state (a .sound) tag value places e;
         count = simp length-append (omega arith);

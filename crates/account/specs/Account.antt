@@ -13,7 +13,7 @@ use Rattle.heads.specs.Heads.{headOf, openingRefusal}
 use Rattle.points.specs.Points.{kindOf, numberOf}
 use Rattle.results.specs.SlotResults.{Quotient, quotients}
 use Rattle.ledger.specs.Operations.{pointRefusal}
-use Rattle.ledger.specs.Calls.{Call, adding, closing}
+use Rattle.calls.specs.Calls.{Call, adding, closing}
 use Rattle.heads.specs.declared.Head.{Head}
 
 -- 'It holds head, calendar, points taken, last number and an exact sum.'

@@ -17,7 +17,7 @@ use Rattle.results.specs.SlotResults.{Quotient, quotients, rounded}
 use Rattle.account.specs.Account.{Account, opening, takes, after, Said, partsOfkW, partsOfWatt, partsOfWh, account}
 use Rattle.heads.specs.declared.Head.{Head}
 use Rattle.figures.specs.declared.Figures.{Figures}
-use Rattle.ledger.specs.Calls.{Call, adding, closing, Reply, refused, accepted, closed, program}
+use Rattle.calls.specs.Calls.{Call, adding, closing, Reply, refused, accepted, closed, program}
 
 -- ---- the points that the account took, before each call
 

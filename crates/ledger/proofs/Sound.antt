@@ -1,37 +1,33 @@
--- Sound states: what opening gives is one, adding keeps it, and 9 never comes along a run of calls. Assumes nothing.
+-- Sound states: what opening gives is one, and adding keeps it. Assumes nothing.
 use mathlib.Core.Path.{_≡_, refl, sym, _∙_}
-use mathlib.Core.Logic.{_↔_}
 use mathlib.Core.Bool.{Bool, true, false, cond, not, _&&_, _||_, true≢false}
 use mathlib.Core.List.{List, [], _∷_}
-use Prim.Native.Nat.{ℕ, _+_, _*_, _<_, _≤_}
+use Prim.Native.Nat.{ℕ, _+_, _*_, _≤_}
 use native.Mathlib.Decide.{ℕ-discrete}
 use native.Mathlib.Omega.{arith}
 use lib.Dec.{T, ltb, eqb}
-use lib.IntN.{pos, natAbs}
+use lib.IntN.{ℤ, pos, natAbs, _+ℤ_}
 use lib.ListN.{getD}
-use mir.Facts.{ltb-no, no-ltb, no-eqb}
-use borrow.Author.Tests.{eqb-true, eq-eqb, ne-eqb, not-false}
+use mir.Facts.{ltb-no, no-ltb}
+use borrow.Author.Tests.{eqb-true, eq-eqb, ne-eqb, ltb-false, le-ltb, not-false}
 use Rattle.numbers.specs.Lists.{any}
-use Rattle.numbers.specs.Refusals.{firstOf}
 use Rattle.numbers.specs.PointNumbers.{isNumber}
-use Rattle.calendar.specs.Dates.{isDate}
 use Rattle.heads.specs.Limits.{mostResult}
 use Rattle.heads.specs.Heads.{headOf, contentRefusal, openingRefusal}
-use Rattle.points.specs.Points.{kindOf, numberOf}
+use Rattle.points.specs.Points.{numberOf}
 use Rattle.ledger.specs.States.{opened, noState, slotTotals, isUnsound, taken}
 use Rattle.figures.specs.Figures.{figuresOf, noFigures}
-use Rattle.ledger.specs.Operations.{openOf, pointTests, pointRefusal, addingTests, addingRefusal, resultsOf, addOf, closingRefusal, closeOf}
+use Rattle.ledger.specs.Operations.{openOf, pointRefusal, addingRefusal, resultsOf, addOf, closingRefusal, closeOf}
 use Rattle.ledger.specs.declared.State.{State}
 use Rattle.ledger.specs.declared.Opened.{Opened}
 use Rattle.ledger.specs.declared.Added.{Added}
 use Rattle.ledger.specs.declared.Closed.{Closed}
-use Rattle.numbers.proofs.Refusals.{untold}
 use Rattle.numbers.proofs.Tests.{noneOf, none-cons, no-false}
+use Rattle.integers.proofs.Machine.{sum-abs}
 use Rattle.heads.proofs.Opening.{opening-content, opens}
+use Rattle.figures.specs.SlotTotals.{plus}
 use Rattle.results.proofs.Bounds.{isBeyond, none-beyond}
-use Rattle.ledger.proofs.Moving.{plus-small}
-use Rattle.ledger.proofs.Taking.{Given, takes, results-small}
-use Rattle.ledger.specs.Calls.{Call, adding, closing, Reply, refused, accepted, closed, replyOf, replies, program, tellsNine, NeverNine}
+use Rattle.ledger.proofs.Taking.{takes, results-small}
 
 -- ---- the answers of the operations, by the refusal
 
@@ -90,47 +86,57 @@ module _ (state : State) where
 pub record Sound (state : State) : Type 0 where
   pub content : contentRefusal (state .head) (state .marks) ≡ 0
   pub room : state .points ≤ state .head .count
-  pub totals : T (noneOf (isBeyond (mostResult * state .points)) (slotTotals state))
-  pub last : T (not (ltb 0 (state .points) && not (isNumber (state .last))))
+  pub totals : any (isBeyond (mostResult * state .points)) (slotTotals state) ≡ false
+  pub last : (ltb 0 (state .points) && not (isNumber (state .last))) ≡ false
 
-no-row : (a b c d : Bool) → (a || b || c || d ≡ false) ↔ ((a ≡ false) × T (not b) × T (not c) × T (not d))
-no-row true b c d = (λ e. absurd (true≢false e), λ t. t .0)
-no-row false true c d = (λ e. absurd (true≢false e), λ t. absurd (t .1))
-no-row false false true d = (λ e. absurd (true≢false e), λ t. absurd (t .2))
-no-row false false false d = (λ e. (refl, tt, tt, rw e tt), λ t. no-false d (t .3))
+no-row : (a b c d : Bool) → a || b || c || d ≡ false → (a ≡ false) × (b ≡ false) × (c ≡ false) × (d ≡ false)
+no-row true b c d e = absurd (true≢false e)
+no-row false true c d e = absurd (true≢false e)
+no-row false false true d e = absurd (true≢false e)
+no-row false false false d e = (refl, refl, refl, e)
 
 module _ (state : State) where
-  rows : (isUnsound state ≡ false) ↔ ((not (eqb (contentRefusal (state .head) (state .marks)) 0) ≡ false)
-      × T (not (ltb (state .head .count) (state .points)))
-      × T (noneOf (isBeyond (mostResult * state .points)) (slotTotals state))
-      × T (not (ltb 0 (state .points) && not (isNumber (state .last)))))
-  unfolding isUnsound
-  rows = no-row (not (eqb (contentRefusal (state .head) (state .marks)) 0)) (ltb (state .head .count) (state .points))
-      (any (isBeyond (mostResult * state .points)) (slotTotals state)) (ltb 0 (state .points) && not (isNumber (state .last)))
-
   pub sound : isUnsound state ≡ false → Sound state
-  sound e = let r = rows .0 e in record { content = eqb-true _ _ (not-false _ (r .0)); room = ltb-no (r .1); totals = r .2; last = r .3 }
+  unfolding isUnsound
+  sound e =
+      let r = no-row (not (eqb (contentRefusal (state .head) (state .marks)) 0)) (ltb (state .head .count) (state .points))
+      (any (isBeyond (mostResult * state .points)) (slotTotals state)) (ltb 0 (state .points) && not (isNumber (state .last))) e in
+      record { content = eqb-true _ _ (not-false _ (r .0)); room = ltb-false _ _ (r .1); totals = r .2; last = r .3 }
 
   pub sound-is : Sound state → isUnsound state ≡ false
-  sound-is s = rows .1 (rw (s .content) refl, no-ltb (s .room), s .totals, s .last)
+  unfolding isUnsound
+  sound-is s = simp (s .content, le-ltb _ _ (s .room), s .totals, s .last)
 
 -- its slot totals are far from the ends of their type
 pub total-small : (state : State) → Sound state → (i : ℕ) → natAbs (getD (slotTotals state) i (pos 0)) ≤ 1000000000000000
 total-small state s i =
     let o = opens (state .head) (state .marks) (s .content) in
-    omega (arith, none-beyond (mostResult * state .points) (slotTotals state) (s .totals) i)
+    omega (arith, none-beyond (mostResult * state .points) (slotTotals state) (rw (s .totals) tt) i)
 
 -- ---- along a run
 
 module _ (head calendar : List ℕ) (accepted : openingRefusal head calendar ≡ 0) where
   pub opened-sound : Sound (opened (headOf head) calendar)
   unfolding any
-  opened-sound = record { content = opening-content head calendar accepted; room = omega arith; totals = tt; last = tt }
+  opened-sound = record { content = opening-content head calendar accepted; room = omega arith; totals = refl; last = refl }
 
-shown : (some number : Bool) → T number → T (not (some && not number))
-shown true true t = tt
+-- sums slot by slot grow by no more than their parts
+plus-small : (k l : ℕ) (xs ys : List ℤ) → T (noneOf (isBeyond k) xs) → T (noneOf (isBeyond l) ys) → T (noneOf (isBeyond (k + l)) (plus xs ys))
+unfolding plus any
+plus-small k l [] ys p q = tt
+plus-small k l (x ∷ xs) [] p q = tt
+plus-small k l (x ∷ xs) (y ∷ ys) p q =
+    let f = none-cons (isBeyond k) x xs .0 p in
+    let g = none-cons (isBeyond l) y ys .0 q in
+    let small-x : natAbs x ≤ k = ltb-no (f .0) in
+    let small-y : natAbs y ≤ l = ltb-no (g .0) in
+    let small : natAbs (x +ℤ y) ≤ k + l = omega (arith, sum-abs x y) in
+    none-cons (isBeyond (k + l)) (x +ℤ y) (plus xs ys) .1 (no-ltb small, plus-small k l xs ys (f .1) (g .1))
+
+shown : (some number : Bool) → T number → (some && not number) ≡ false
+shown true true t = refl
 shown true false t = absurd t
-shown false number t = tt
+shown false number t = refl
 
 module _ (state : State) (s : Sound state) (tag : ℕ) (value : List ℕ) (places : ℕ) where
   -- the refusals of a sound state are those of the account
@@ -147,8 +153,8 @@ module _ (state : State) (s : Sound state) (tag : ℕ) (value : List ℕ) (place
       record {
         content = s .content;
         room = omega arith;
-        totals = rw more (plus-small (mostResult * state .points) mostResult (slotTotals state) (resultsOf state tag value) (s .totals)
-            (results-small g (state .marks) (opens (state .head) (state .marks) (s .content))));
+        totals = rw more (no-false _ (plus-small (mostResult * state .points) mostResult (slotTotals state) (resultsOf state tag value) (rw (s .totals) tt)
+            (results-small g (state .marks) (opens (state .head) (state .marks) (s .content)))));
         last = shown (ltb 0 (state .points + 1)) (isNumber (numberOf value)) (g .number);
       }
 
@@ -163,72 +169,3 @@ module _ (state : State) (s : Sound state) (tag : ℕ) (value : List ℕ) (place
 pub closing-sound : (state : State) → Sound state → closingRefusal state ≡ cond (ltb (state .points) (state .head .count)) 20 0
 unfolding closingRefusal
 closing-sound state s = rw (sound-is state s)
-
--- an accepted adding was given a sound state and a point to take
-module _ (state : State) (tag : ℕ) (value : List ℕ) (places : ℕ) (e : addingRefusal state tag value places ≡ 0) where
-  pub accepted-sound : Sound state
-  unfolding addingRefusal
-  accepted-sound = sound state (untold (addingTests state tag value places) tt e 9)
-
-  pub accepted-given : Given (state .head) (state .points) (kindOf tag) value places
-  accepted-given = takes (state .head) (state .points) (state .last) tag value places (state .marks) (sym (adding-sound state accepted-sound tag value places) ∙ e)
-
--- the state of zeros, which a refused opening gives, is not sound
-pub nothing-unsound : isUnsound noState ≡ true
-unfolding isUnsound contentRefusal isDate
-nothing-unsound = refl
-
-pub nothing-taken : (tag : ℕ) (value : List ℕ) (places : ℕ) → addingRefusal noState tag value places ≡ 9
-unfolding addingRefusal
-nothing-taken tag value places = rw nothing-unsound
-
-pub nothing-closed : closingRefusal noState ≡ 9
-unfolding closingRefusal
-nothing-closed = rw nothing-unsound
-
--- ---- 9 never comes after an accepted opening
-
-never-told : (n : ℕ) (table : List (Bool × ℕ)) → 0 < n → T (noneOf (λ row. eqb (row .1) n) table) → T (not (eqb (firstOf table) n))
-never-told n [] h t = no-eqb (λ (e : 0 ≡ n). omega arith)
-never-told n (row ∷ table) h t = go (row .0) (none-cons (λ row. eqb (row .1) n) row table .0 t) (never-told n table h)
-  where
-    go : (b : Bool) → T (not (eqb (row .1) n)) × T (noneOf (λ row. eqb (row .1) n) table)
-        → (T (noneOf (λ row. eqb (row .1) n) table) → T (not (eqb (firstOf table) n))) → T (not (eqb (cond b (row .1) (firstOf table)) n))
-    go true p f = p .0
-    go false p f = f (p .1)
-
-module _ (state : State) (s : Sound state) where
-  add-not-nine : (tag : ℕ) (value : List ℕ) (places : ℕ) → T (not (eqb (addOf state tag value places .refusal) 9))
-  unfolding pointRefusal any
-  add-not-nine tag value places = rw (add-refusal, adding-sound state s tag value places)
-      (never-told 9 (pointTests (state .head) (state .marks) (state .points) (state .last) tag value places) (omega arith) tt)
-
-  close-not-nine : T (not (eqb (closeOf state .refusal) 9))
-  unfolding any
-  close-not-nine = rw (close-refusal, closing-sound state s) (never-told 9 ((ltb (state .points) (state .head .count), 20) ∷ []) (omega arith) tt)
-
-reply-not-nine : (n : ℕ) (reply : Reply) → T (not (tellsNine reply)) → T (not (eqb n 9)) → T (not (tellsNine (replyOf n reply)))
-reply-not-nine n reply p q = go (eqb n 0)
-  where
-    go : (t : Bool) → T (not (tellsNine (cond t reply (refused n))))
-    go true = p
-    go false = q
-
-replies-not-nine : (calls : List Call) (state : State) → Sound state → T (noneOf tellsNine (replies state calls))
-unfolding replies any
-replies-not-nine [] state s = tt
-replies-not-nine (adding tag value places ∷ calls) state s =
-    let added = addOf state tag value places in
-    none-cons tellsNine (replyOf (added .refusal) accepted) (replies (added .state) calls) .1
-    (reply-not-nine (added .refusal) accepted tt (add-not-nine state s tag value places), replies-not-nine calls (added .state) (add-sound state s tag value places))
-replies-not-nine (closing ∷ calls) state s =
-    let reply = closed (closeOf state .figures) in
-    none-cons tellsNine (replyOf (closeOf state .refusal) reply) (replies state calls) .1
-    (reply-not-nine (closeOf state .refusal) reply tt (close-not-nine state s), replies-not-nine calls state s)
-
-pub never-nine : NeverNine
-unfolding program
-never-nine head calendar e calls =
-    let z = sym (open-refusal head calendar) ∙ e in
-    rw (open-good head calendar z)
-    (none-cons tellsNine accepted (replies (opened (headOf head) calendar) calls) .1 (tt, replies-not-nine calls _ (opened-sound head calendar z)))

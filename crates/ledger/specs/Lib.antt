@@ -1,5 +1,2 @@
 pub mod States
 pub mod Operations
-pub mod Calls
-pub mod Totals
-pub mod Within

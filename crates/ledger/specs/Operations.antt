@@ -6,6 +6,7 @@ use lib.Dec.{leb, ltb, eqb}
 use lib.IntN.{ℤ}
 use lib.ListN.{length}
 use Rattle.numbers.specs.Refusals.{firstOf}
+use Rattle.numbers.specs.Slots.{windowSlots}
 use Rattle.numbers.specs.PointNumbers.{below}
 use Rattle.heads.specs.Heads.{headOf, openingRefusal}
 use Rattle.points.specs.Points.{kindOf, numberOf, formRows, numberRow, valueRows}
@@ -38,7 +39,7 @@ reachedRow h points = (leb (h .count) points, 10) ∷ []
 
 -- 13: 'not six places'
 abbrev pub placesRow : ℕ → List (Bool × ℕ)
-placesRow places = (not (eqb places 6), 13) ∷ []
+placesRow places = (not (eqb places windowSlots), 13) ∷ []
 
 -- 14, and 15: 'not above the last number (the first point has none before it)'
 abbrev pub numberRows : ℕ → List ℕ → List ℕ → List (Bool × ℕ)

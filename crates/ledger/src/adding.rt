@@ -4,9 +4,11 @@ ghost use Rattle.numbers.specs.Refusals.{firstOf};
 ghost use Rattle.ledger.specs.Operations.{numberRows, stateRows, earlyRefusal};
 use crate::State;
 use crate::states;
+use numbers::NUMBER_LENGTH;
+use numbers::WINDOW_SLOTS;
 
 // A number that is not allowed, or not above the last one; the first point has none before it.
-fn number_refusal(number: &[u8], points: u32, last: [u8; 22]) -> u32
+fn number_refusal(number: &[u8], points: u32, last: [u8; NUMBER_LENGTH]) -> u32
     ensures { λ r. ⌜ r ≡ firstOf (numberRows points last (now (number .entry))) ⌝ }
 {
     if !numbers::is_number(number) {
@@ -48,12 +50,12 @@ pub fn early_refusal(state: State, tag: u8, value: &[u8], places: usize) -> u32
     if form != refusals::ACCEPTED {
         return form;
     }
-    if places != 6 {
+    if places != WINDOW_SLOTS {
         return refusals::NOT_SIX_PLACES;
     }
     let points = state.points;
     let last = state.last;
-    let number = number_refusal(&value[0..22], points, last);
+    let number = number_refusal(&value[0..NUMBER_LENGTH], points, last);
     if number != refusals::ACCEPTED {
         return number;
     }

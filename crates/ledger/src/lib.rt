@@ -8,18 +8,21 @@ pub mod states;
 
 use figures::Figures;
 use heads::Head;
+use numbers::DAYS_BACK;
+use numbers::NUMBER_LENGTH;
+use numbers::WINDOW_SLOTS;
 
 // The settlement state. It goes in and comes back by value, and no field of it is trusted.
 pub struct State {
     pub head: Head,
     // day 1 back first
-    pub marks: [u8; 30],
+    pub marks: [u8; DAYS_BACK],
     // points taken
     pub points: u32,
     // slot totals, in Wh
-    pub totals: [i64; 6],
+    pub totals: [i64; WINDOW_SLOTS],
     // the last point number
-    pub last: [u8; 22],
+    pub last: [u8; NUMBER_LENGTH],
 }
 
 // The answer of opening; refusal 0 is accepted.
@@ -77,7 +80,7 @@ pub fn close(state: State) -> Closed
             figures,
         };
     }
-    let totals = state.totals;
+    let totals = states::slot_totals(state);
     let figures = figures::closing::figures_of(head.contract, totals, points);
     Closed {
         refusal: refusals::ACCEPTED,
@@ -106,7 +109,7 @@ pub fn add(state: State, tag: u8, value: &[u8], places: &mut [i64]) -> Added
     }
     let found = answer.found;
     figures::totals::put(places, found);
-    let before = state.totals;
+    let before = states::slot_totals(state);
     let sums = figures::totals::add_totals(before, found);
     let number = points::number_of(value);
     let mut next = state;

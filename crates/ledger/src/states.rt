@@ -5,20 +5,23 @@ ghost use Prim.Native.Nat.{ℕ};
 ghost use lib.Dec.{ltb};
 ghost use lib.IntN.{ℤ, natAbs};
 ghost use Rattle.numbers.specs.Lists.{any};
-ghost use Rattle.ledger.specs.States.{opened, noState, isUnsound};
+ghost use Rattle.ledger.specs.States.{opened, noState, slotTotals, isUnsound};
 use crate::State;
 use heads::Head;
+use numbers::DAYS_BACK;
+use numbers::NUMBER_LENGTH;
+use numbers::WINDOW_SLOTS;
 
 // The state that an accepted opening gives.
-pub fn opened_state(head: Head, marks: [u8; 30]) -> State
+pub fn opened_state(head: Head, marks: [u8; DAYS_BACK]) -> State
     ensures { λ r. ⌜ r ≡ opened head marks ⌝ }
 {
     State {
         head,
         marks,
         points: 0,
-        totals: [0; 6],
-        last: [48; 22],
+        totals: [0; WINDOW_SLOTS],
+        last: [48; NUMBER_LENGTH],
     }
 }
 
@@ -37,11 +40,18 @@ pub fn no_state() -> State
     };
     State {
         head,
-        marks: [0; 30],
+        marks: [0; DAYS_BACK],
         points: 0,
-        totals: [0; 6],
-        last: [0; 22],
+        totals: [0; WINDOW_SLOTS],
+        last: [0; NUMBER_LENGTH],
     }
+}
+
+// The slot totals of a state. Whoever reads them reads them here.
+pub fn slot_totals(state: State) -> [i64; WINDOW_SLOTS]
+    ensures { λ r. ⌜ r ≡ slotTotals state ⌝ }
+{
+    state.totals
 }
 
 // The size that one slot result may have.
@@ -60,7 +70,7 @@ pub fn is_unsound(state: State) -> bool
     if head.count < points {
         return true;
     }
-    let totals = state.totals;
+    let totals = slot_totals(state);
     if figures::totals::has_beyond(totals, MOST_RESULT * (points as u64)) {
         return true;
     }

@@ -94,7 +94,7 @@ fn put_settled(state: State, figures: Figures, at: usize, out: &mut [u8]) -> usi
     ensures { λ r. ⌜ Placed (settledText state figures) at (now (out .entry)) r (now (out .exit)) ⌝ }
 {
     let head = state.head;
-    let totals = state.totals;
+    let totals = ledger::states::slot_totals(state);
     let dated = put_date_line(head, at, out);
     let counted = lines::put_line(b"points ", figures.points as u64, dated, out);
     let slots = put_slots(totals, counted, out);

@@ -8,7 +8,7 @@ use native.Mathlib.Omega.{arith}
 use lib.Dec.{T, ltb}
 use lib.IntN.{ℤ, pos, natAbs, _+ℤ_, _-ℤ_, _*ℤ_}
 use lib.Signed.{_≤ℤ_, _<ℤ_}
-use lib.ListN.{length, getD}
+use lib.ListN.{length, getD, length-map}
 use mir.Facts.{no-ltb}
 use borrow.Author.Tests.{ltb-false, le-ltb}
 use Rattle.numbers.specs.Lists.{run, any}
@@ -24,7 +24,7 @@ use Rattle.heads.specs.Limits.{mostLoss, mostBaseline, mostResult}
 use Rattle.heads.specs.Heads.{testDay}
 use Rattle.heads.proofs.Opening.{Opens}
 use Rattle.points.specs.Points.{Kind, consumer, generator, unknown, isUnknown, isUnfit, hasLarge, readingsOf, readingCount, baselineOf}
-use Rattle.results.specs.SlotResults.{Quotient, lossOf, consumerQuotient, generatorQuotient, quotients, rounded}
+use Rattle.results.specs.SlotResults.{Quotient, lossOf, consumerQuotient, generatorQuotient, quotients, rounded, results}
 use Rattle.heads.specs.declared.Head.{Head}
 use Rattle.numbers.proofs.Tests.{no-false, noneOf, none-run}
 
@@ -96,3 +96,6 @@ module _ (h : Head) (marks : List ℕ) where
   six-by consumer value e = run-length _ 0 6
   six-by generator value e = run-length _ 0 6
   six-by unknown value e = absurd (true≢false e)
+
+  pub six-results : (kind : Kind) (value : List ℕ) → isUnknown kind ≡ false → length (results h marks kind value) ≡ 6
+  six-results kind value e = simp length-map (six-by kind value e)

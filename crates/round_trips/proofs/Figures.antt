@@ -4,7 +4,7 @@ use mathlib.Core.List.{List, [], _∷_, _++_, map}
 use Prim.Native.Nat.{ℕ}
 use Rattle.ledger.specs.Operations.{closeOf}
 use Rattle.ledger.specs.declared.State.{State}
-use Rattle.ledger.specs.Calls.{accepted, closed, replyOf, replies, program}
+use Rattle.calls.specs.Calls.{accepted, closed, replyOf, replies, program}
 use Rattle.book.specs.Reading.{Reading, refused, good, Points, Book, readBook}
 use Rattle.book.specs.Settling.{closingOf, settlingRefusal}
 use Rattle.book.proofs.Readings.{Points-read, none, more, book-read, Told, book-told}

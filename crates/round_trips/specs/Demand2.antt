@@ -18,7 +18,7 @@ use Rattle.fields.specs.Fields.{written}
 pub use Rattle.fields.specs.Writing.{headRoom}
 use Rattle.fields.specs.Writing.{writtenHead, headWritingRefusal, pointWritingRefusal}
 use Rattle.book.specs.Settling.{settlingRefusal}
-use Rattle.ledger.specs.Calls.{Call, adding, closing, accepted, closed, program}
+use Rattle.calls.specs.Calls.{Call, adding, closing, accepted, closed, program}
 
 -- 'rising in number', after a number and from the first point on
 abbrev pub risesAfter : List ℕ → List Point → Bool

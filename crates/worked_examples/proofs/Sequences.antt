@@ -15,7 +15,7 @@ use Rattle.ledger.specs.States.{isUnsound, taken}
 use Rattle.figures.specs.Figures.{figuresOf}
 use Rattle.ledger.specs.Operations.{openOf, pointRefusal, addingRefusal, addOf, closingRefusal, closeOf}
 use Rattle.account.specs.Account.{opening, saysOf, account}
-use Rattle.ledger.specs.Calls.{replies, program}
+use Rattle.calls.specs.Calls.{replies, program}
 use Rattle.worked_examples.specs.Examples.{highVoltage}
 use Rattle.worked_examples.specs.Sequences.{WorkedSequences}
 

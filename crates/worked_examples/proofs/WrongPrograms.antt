@@ -18,7 +18,7 @@ use Rattle.figures.specs.SlotTotals.{plus}
 use Rattle.ledger.specs.States.{isUnsound, taken}
 use Rattle.figures.specs.Figures.{figuresOf}
 use Rattle.ledger.specs.Operations.{openOf, pointRefusal, addingRefusal, addOf, closingRefusal, closeOf}
-use Rattle.ledger.specs.Calls.{Call, adding, closing, Reply, refused, accepted, closed, replies, program, pointsTaken}
+use Rattle.calls.specs.Calls.{Call, adding, closing, Reply, refused, accepted, closed, replies, program, pointsTaken}
 use Rattle.ledger.specs.declared.State.{State}
 use Rattle.account.specs.Account.{opening, Said, saysOf, account}
 use Rattle.account.specs.Demand3.{takenBefore, roundedTotal, both-refuse, both-accept, both-close, AgreeAll, end, next, Demand3Of}

@@ -8,7 +8,7 @@ use lib.ListN.{take, replicate}
 use Rattle.numbers.specs.Lists.{gather}
 use Rattle.numbers.specs.Words.{bytesOf}
 use Rattle.heads.specs.Heads.{headOf}
-use Rattle.ledger.specs.Calls.{Call, adding, closing, Reply, refused, accepted, closed, program}
+use Rattle.calls.specs.Calls.{Call, adding, closing, Reply, refused, accepted, closed, program}
 use Rattle.account.specs.Account.{Said, account, partsOfkW}
 use Rattle.worked_examples.specs.Examples.{head, highVoltage}
 use Rattle.figures.specs.declared.Figures.{Figures}

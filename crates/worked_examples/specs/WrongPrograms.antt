@@ -11,8 +11,8 @@ use Rattle.heads.specs.Heads.{headOf}
 use Rattle.points.specs.Points.{numberOf}
 use Rattle.ledger.specs.States.{taken}
 use Rattle.ledger.specs.Operations.{openOf, addingRefusal, resultsOf, closeOf}
-use Rattle.ledger.specs.Calls.{Call, adding, closing, Reply, accepted, closed, replyOf, program, pointsTaken}
-use Rattle.ledger.specs.Totals.{Holds}
+use Rattle.calls.specs.Calls.{Call, adding, closing, Reply, accepted, closed, replyOf, program, pointsTaken}
+use Rattle.calls.specs.Totals.{Holds}
 use Rattle.ledger.specs.declared.State.{State}
 use Rattle.ledger.specs.declared.Added.{Added}
 use Rattle.account.specs.Demand3.{Demand3Of}

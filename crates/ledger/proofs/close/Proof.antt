@@ -20,12 +20,9 @@ returns-2 : tie.Need-returns-2
 unfolding closingRefusal closeOf
 returns-2 c = rw (c .no-figures2 .ensures) (simp (not-unsound (c .before .before .before .before), lt-ltb _ _ (c .before .if2 .taken)))
 
-figures-of-requires : tie.Need-figures-of-requires
-figures-of-requires c κs = let at = c .before .before .before .before in total-small _ (sound _ (not-unsound at))
-
 returns-3 : tie.Need-returns-3
 unfolding closingRefusal closeOf
-returns-3 c = rw (c .figures-of .ensures) (simp (not-unsound (c .before .before .before .before .before), le-ltb _ _ (c .before .before .if2 .left)))
+returns-3 c = rw (c .figures-of .ensures, c .before .slot-totals .ensures) (simp (not-unsound (c .before .before .before .before .before), le-ltb _ _ (c .before .before .if2 .left)))
 
 pub close-spec : {M : Type 1} → statement M
 close-spec =
@@ -36,5 +33,6 @@ close-spec =
     returns
     (λ c κs. search needs)
     returns-2
-    figures-of-requires
+    (λ c κs. search needs)
+    (λ c κs. rw (c .slot-totals .ensures) (total-small _ (sound _ (not-unsound (c .before .before .before .before)))))
     returns-3)

@@ -15,15 +15,8 @@ accepted c = sym (c .before .opening-refusal .ensures) ∙ c .if1 .left
 
 returns : tie.Need-returns
 returns c =
-    let s = c .before .before .before .before .before in
     let e = c .before .before .opening-refusal .ensures in
-    rw (c .no-state .ensures, e) (sym (open-bad (s .args .head .now) (s .args .calendar .now) (rw e at (c .before .if1 .taken))))
-
-marks-of-requires : tie.Need-marks-of-requires
-marks-of-requires c κs = opening-lengths (start c .args .head .now) (start c .args .calendar .now) (accepted c) .1
-
-head-of-requires : tie.Need-head-of-requires
-head-of-requires c κs = let s = start (c .before) in opening-lengths (s .args .head .now) (s .args .calendar .now) (accepted (c .before)) .0
+    rw (c .no-state .ensures, e) (sym (open-bad _ _ (rw e at (c .before .if1 .taken))))
 
 returns-2 : tie.Need-returns-2
 returns-2 c =
@@ -38,7 +31,7 @@ open-spec =
     (λ c κs. search needs)
     (λ c κs. search needs)
     returns
-    marks-of-requires
-    head-of-requires
+    (λ c κs. opening-lengths _ _ (accepted c) .1)
+    (λ c κs. opening-lengths _ _ (accepted (c .before)) .0)
     (λ c κs. search needs)
     returns-2)

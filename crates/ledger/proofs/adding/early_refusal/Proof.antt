@@ -8,7 +8,7 @@ use borrow.Author.Needs.{needs}
 use borrow.Author.Tests.{eq-eqb, ne-eqb}
 use lib.ListN.{length}
 use Rattle.numbers.specs.Refusals.{firstOf}
-use Rattle.numbers.proofs.Refusals.{told, passed}
+use Rattle.numbers.proofs.Refusals.{passed, tells, passes}
 use Rattle.points.specs.Points.{numberOf, formRows, valueRows}
 use Rattle.points.proofs.PointKinds.{right-length, long-enough}
 use Rattle.ledger.specs.Operations.{stateRows, placesRow, numberRows, earlyRefusal}
@@ -35,73 +35,61 @@ module _ (s : tie.Start) where
 
 -- ---- behind a group that is passed the next one tells
 
-abbrev start-1 : tie.Else1 → tie.Start
-start-1 c = c .before .before .before
+module _ (c : tie.Else1) where
+  abbrev start : tie.Start
+  start = c .before .before .before
 
-abbrev start-2 : tie.Else2 → tie.Start
-start-2 c = start-1 (c .before .before)
+  forms-next : Told start (forms start ++ from-places start)
+  unfolding earlyRefusal
+  forms-next = passes (stateRows (start .args .state)) (forms start ++ from-places start) (c .before .state-refusal .ensures) tt (c .if1 .left)
 
-abbrev start-3 : tie.Else3 → tie.Start
-start-3 c = start-2 (c .before)
+module _ (c : tie.Else2) where
+  abbrev start-2 : tie.Start
+  start-2 = start (c .before .before)
 
-forms-next : (c : tie.Else1) → Told (start-1 c) (forms (start-1 c) ++ from-places (start-1 c))
-unfolding earlyRefusal
-forms-next c =
-    let s = start-1 c in
-    passed (stateRows (s .args .state)) (forms s ++ from-places s) tt (sym (c .before .state-refusal .ensures) ∙ c .if1 .left)
+  form-passed : firstOf (forms start-2) ≡ 0
+  form-passed = sym (c .before .form-refusal .ensures) ∙ c .if2 .left
 
-form-passed : (c : tie.Else2) → firstOf (forms (start-2 c)) ≡ 0
-form-passed c = sym (c .before .form-refusal .ensures) ∙ c .if2 .left
+  places-next : Told start-2 (from-places start-2)
+  places-next = forms-next (c .before .before) ∙ passed (forms start-2) (from-places start-2) tt form-passed
 
-places-next : (c : tie.Else2) → Told (start-2 c) (from-places (start-2 c))
-places-next c = forms-next (c .before .before) ∙ passed (forms (start-2 c)) (from-places (start-2 c)) tt (form-passed c)
-
-numbers-next : (c : tie.Else3) → Told (start-3 c) (numbers (start-3 c) ++ values (start-3 c))
+numbers-next : (c : tie.Else3) → let s = start-2 (c .before) in Told s (numbers s ++ values s)
 numbers-next c = places-next (c .before) ∙ simp (eq-eqb _ _ (c .if3 .left))
 
 -- ---- the needs
 
 returns : tie.Need-returns
 unfolding earlyRefusal
-returns c =
-    let s = c .before .before .before in
-    let e = c .before .state-refusal .ensures in
-    e ∙ sym (told (stateRows (s .args .state)) (forms s ++ from-places s) λ z. c .if1 .taken (e ∙ z))
+returns c = let s = c .before .before .before in tells (stateRows (s .args .state)) (forms s ++ from-places s) (c .before .state-refusal .ensures) (c .if1 .taken)
 
 returns-2 : tie.Need-returns-2
 returns-2 c =
-    let at-forms = c .before .before in
-    let s = start-1 at-forms in
-    let e = c .before .form-refusal .ensures in
-    e ∙ sym (forms-next at-forms ∙ told (forms s) (from-places s) λ z. c .if2 .taken (e ∙ z))
+    let at = c .before .before in
+    tells (forms (start at)) (from-places (start at)) (c .before .form-refusal .ensures) (c .if2 .taken) ∙ sym (forms-next at)
 
 returns-3 : tie.Need-returns-3
 returns-3 c = sym (places-next (c .before) ∙ simp (ne-eqb _ _ (c .if3 .taken)))
 
 part-number-refusal-end : tie.Need-part-number-refusal-end
 part-number-refusal-end c =
-    let s = start-3 (c .before) in
-    omega (arith, long-enough (s .args .tag) (length (s .args .value .now)) (form-passed (c .before .before)))
+    let at = c .before .before in
+    omega (arith, long-enough (start-2 at .args .tag) (length (start-2 at .args .value .now)) (form-passed at))
 
 returns-4 : tie.Need-returns-4
 returns-4 c =
-    let at-numbers = c .before .before .before .before in
-    let s = start-3 at-numbers in
-    let e = c .before .number-refusal .ensures in
-    e ∙ sym (numbers-next at-numbers ∙ told (numbers s) (values s) λ z. c .if4 .taken (e ∙ z))
+    let at = c .before .before .before .before in
+    let s = start-2 (at .before) in
+    tells (numbers s) (values s) (c .before .number-refusal .ensures) (c .if4 .taken) ∙ sym (numbers-next at)
 
 value-refusal-requires : tie.Need-value-refusal-requires
-value-refusal-requires c κs =
-    let at-numbers = c .before .before .before .before in
-    let s = start-3 at-numbers in
-    right-length (s .args .tag) (length (s .args .value .now)) (form-passed (at-numbers .before))
+value-refusal-requires c κs = let at = c .before .before .before .before .before in right-length (start-2 at .args .tag) _ (form-passed at)
 
 returns-5 : tie.Need-returns-5
 returns-5 c =
-    let at-numbers = c .before .before .before .before .before in
-    let s = start-3 at-numbers in
-    let e = sym (c .before .before .number-refusal .ensures) ∙ c .before .if4 .left in
-    c .value-refusal .ensures ∙ sym (numbers-next at-numbers ∙ passed (numbers s) (values s) tt e)
+    let at = c .before .before .before .before .before in
+    let s = start-2 (at .before) in
+    c .value-refusal .ensures
+    ∙ sym (numbers-next at ∙ passes (numbers s) (values s) (c .before .before .number-refusal .ensures) tt (c .before .if4 .left))
 
 pub early-refusal-spec : {M : Type 1} → statement M
 early-refusal-spec =

@@ -11,11 +11,11 @@ use Rattle.integers.specs.Integers.{sumℤ}
 use Rattle.heads.specs.Heads.{headOf}
 use Rattle.points.specs.Points.{Point, kindOf, numberOf}
 use Rattle.results.specs.SlotResults.{results}
 use Rattle.ledger.specs.States.{noState, slotTotals}
 use Rattle.ledger.specs.Operations.{openOf}
-use Rattle.ledger.specs.Calls.{Call, replies, stateAfter, pointsTaken}
+use Rattle.calls.specs.Calls.{Call, replies, stateAfter, pointsTaken}
 use Rattle.heads.specs.declared.Head.{Head}
 use Rattle.ledger.specs.declared.State.{State}
 
 -- slot j of a point, rounded
 abbrev pub slotResult : Head → List ℕ → ℕ → Point → ℤ

@@ -1,0 +1,3 @@
+pub mod Nine
+pub mod Totals
+pub mod Within

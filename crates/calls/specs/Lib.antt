@@ -1,0 +1,3 @@
+pub mod Calls
+pub mod Totals
+pub mod Within
