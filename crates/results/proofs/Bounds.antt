@@ -52,8 +52,8 @@ consumer-small loss b u hl hb hu =
     let q = consumerQuotient loss b u in
     go (10_000 - loss) (omega arith) (rounded q) (floor-low (q .num) (q .den) (omega arith)) (floor-high (q .num) (q .den) (omega arith))
   where
-    go : (p : ℕ) → 5_000 ≤ p → (q : ℤ) → (q *ℤ pos (24 * p)) ≤ℤ ((pos b -ℤ pos (24 * u)) *ℤ pos 10_000)
-        → ((pos b -ℤ pos (24 * u)) *ℤ pos 10_000) <ℤ (q *ℤ pos (24 * p) +ℤ pos (24 * p)) → natAbs q ≤ mostResult
+    go : (p : ℕ) → 5_000 ≤ p → (q : ℤ) → (q *ℤ pos (24 * p)) ≤ℤ (consumerQuotient loss b u .num)
+        → (consumerQuotient loss b u .num) <ℤ (q *ℤ pos (24 * p) +ℤ pos (24 * p)) → natAbs q ≤ mostResult
     go p hp = by⊖ _ λ a a′. simp ⊖s λ l h.
         let i : a < a′ + 4_000_000_001 = lt-of-mul-lt-mul-right p (omega arith) in
         let j : a′ < a + 2_000_000_002 = lt-of-mul-lt-mul-right p (omega arith) in

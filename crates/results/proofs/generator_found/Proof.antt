@@ -27,10 +27,9 @@ loop-holds c = (c .word32-at .ensures, filled-none refl)
 
 loop-again : tie.Need-loop-again Inv-loop μ-loop
 loop-again c =
-    let at-loop = c .before .before .before in
-    let l = at-loop .loop in
-    let e = c .generator-result .ensures ∙ rw (c .before .word32-at2 .ensures, l .inv .0, zero-add) in
-    (l .inv .0, filled-more (l .inv .1) (pos 0) _ (omega arith) (told w64 (c .generator-result .ok) e))
+    let l = c .before .before .before .loop in
+    let result = told w64 (c .generator-result .ok) (c .generator-result .ensures) in
+    (l .inv .0, filled-more (l .inv .1) (pos 0) _ (omega arith) (result ∙ rw (c .before .word32-at2 .ensures, l .inv .0, zero-add)))
 
 returns : tie.Need-returns Inv-loop μ-loop
 returns c =
