@@ -8,9 +8,6 @@ use Rattle.results.proofs.Consumers.{dated, classed, lossy, tested, too
 use Rattle.results.proofs.consumer_found.Statement.{statement}
 use Rattle.results.proofs.consumer_found.Tie as tie
 
-day-count-requires : tie.Need-day-count-requires
-day-count-requires c κs = let s = c .before in dated (s .pre)
-
 consumer-baselines-requires : tie.Need-consumer-baselines-requires
 consumer-baselines-requires c κs =
     let at-count = c .before .before in
@@ -53,7 +50,7 @@ pub consumer-found-spec : {M : Type 1} → statement M
 consumer-found-spec =
     tie.close
     (tie.spec
-    day-count-requires
+    (λ c κs. dated (c .before .pre))
     (λ c. search needs)
     (λ c. search needs)
     (λ c. search needs)

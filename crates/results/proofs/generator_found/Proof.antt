@@ -22,9 +22,6 @@ Inv-loop value baseline found₀ j₀ found j =
 abbrev μ-loop : tie.MeasureT-loop
 μ-loop value baseline found₀ j₀ found j = 6 - j
 
-loop-holds : tie.Need-loop-holds Inv-loop μ-loop
-loop-holds c = (c .word32-at .ensures, filled-none refl)
-
 loop-again : tie.Need-loop-again Inv-loop μ-loop
 loop-again c =
     let l = c .before .before .before .loop in
@@ -44,7 +41,7 @@ generator-found-spec =
     Inv-loop
     μ-loop
     (λ c κs. search needs)
-    loop-holds
+    (λ c. (c .word32-at .ensures, filled-none refl))
     (λ c. search needs)
     (λ c. search needs)
     (λ c κs. search needs)
