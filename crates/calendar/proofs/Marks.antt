@@ -1,26 +1,25 @@
--- Marks told one by one. Assumes nothing.
+-- A mark that was told, or passed. Assumes nothing.
 use mathlib.Core.Path.{_≡_, refl}
 use mathlib.Core.Bool.{Bool, true, false, cond, not, _||_}
-use mathlib.Core.List.{List, [], _∷_}
+use mathlib.Core.List.{[], _∷_}
 use Prim.Native.Nat.{ℕ}
 use native.Mathlib.Omega.{arith}
 use Rattle.numbers.specs.Lists.{any}
 use Rattle.numbers.specs.Refusals.{firstOf}
 use Rattle.calendar.specs.Eligible.{isMark, markRow}
 
-module _ (mark : ℕ) (marks : List ℕ) where
-  pub mark-told : (firstOf (markRow (mark ∷ [])) ≡ 0 → ⊥) → firstOf (markRow (mark ∷ [])) ≡ firstOf (markRow (mark ∷ marks))
-  unfolding any
-  mark-told n = go (isMark mark) (any (λ mark. not (isMark mark)) marks) n
-    where
-      go : (here rest : Bool) → (cond {A = ℕ} (not here || false) 8 0 ≡ 0 → ⊥) → cond {A = ℕ} (not here || false) 8 0 ≡ cond (not here || rest) 8 0
-      go true rest n = absurd (n refl)
-      go false rest n = refl
+pub mark-told : (mark : ℕ) → (firstOf (markRow (mark ∷ [])) ≡ 0 → ⊥) → not (isMark mark) ≡ true
+unfolding any
+mark-told mark = go (not (isMark mark))
+  where
+    go : (t : Bool) → (cond {A = ℕ} (t || false) 8 0 ≡ 0 → ⊥) → t ≡ true
+    go true n = refl
+    go false n = absurd (n refl)
 
-  pub mark-passed : firstOf (markRow (mark ∷ [])) ≡ 0 → firstOf (markRow (mark ∷ marks)) ≡ firstOf (markRow marks)
-  unfolding any
-  mark-passed e = go (isMark mark) (any (λ mark. not (isMark mark)) marks) e
-    where
-      go : (here rest : Bool) → cond {A = ℕ} (not here || false) 8 0 ≡ 0 → cond {A = ℕ} (not here || rest) 8 0 ≡ cond rest 8 0
-      go true rest e = refl
-      go false rest e = absurd (omega arith)
+pub mark-passed : (mark : ℕ) → firstOf (markRow (mark ∷ [])) ≡ 0 → not (isMark mark) ≡ false
+unfolding any
+mark-passed mark = go (not (isMark mark))
+  where
+    go : (t : Bool) → cond {A = ℕ} (t || false) 8 0 ≡ 0 → t ≡ false
+    go true e = absurd (omega arith)
+    go false e = refl

@@ -12,7 +12,8 @@ pub struct Got {
 
 // Fills the lent bytes from the front.
 pub fn fill(bytes: &mut [u8]) -> Got
-    ensures { λ r. ⌜ (r .count ≤ length (now (bytes .entry))) × (length (now (bytes .exit)) ≡ length (now (bytes .entry))) ⌝ }
+    ensures { λ r. ⌜ r .count ≤ length (now (bytes .entry)) ⌝ }
+    ensures { λ _. ⌜ length (now (bytes .exit)) ≡ length (now (bytes .entry)) ⌝ }
 {
     let mut done: usize = 0;
     while done < bytes.len() {

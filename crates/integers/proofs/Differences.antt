@@ -6,7 +6,7 @@ use mathlib.Core.Bool.{Bool, true, false, not, cond}
 use Prim.Native.Nat.{ℕ, zero, suc, _+_, _*_, _-_, _<_, _≤_}
 use native.Mathlib.Omega.{arith}
 use lib.Dec.{T, ltb, leb→le, le→leb, ltb→lt, lt→ltb, nltb→le}
-use lib.IntN.{ℤ, pos, negsuc, negℤ, _+ℤ_, _*ℤ_, subℕ, natAbs}
+use lib.IntN.{ℤ, pos, negsuc, negℤ, _+ℤ_, _*ℤ_, subℕ, natAbs, pos-ne-negsuc}
 use lib.Signed.{_≤ℤ_, _<ℤ_, leZ-yes, ltZ-yes, mag}
 use Rattle.integers.specs.Integers.{orZero}
 
@@ -38,21 +38,12 @@ by-signs a b c d P pp pn np nn = by-sign a b (λ x. P x (c ⊖ d))
 
 -- ---- equality
 
-apart : (k j : ℕ) → pos k ≡ negsuc j → ⊥
-apart k j h = let z : _≡_ {A = ℕ} 0 1 = cc in omega arith
-
-same-pos : (k j : ℕ) → pos k ≡ pos j → k ≡ j
-same-pos k j h = cc
-
-same-neg : (k j : ℕ) → negsuc k ≡ negsuc j → k ≡ j
-same-neg k j h = cc
-
 pub ⊖-≡-iff : (a b c d : ℕ) → (a ⊖ b ≡ c ⊖ d) ↔ (a + d ≡ c + b)
 ⊖-≡-iff a b c d = by-signs a b c d (λ x y. (x ≡ y) ↔ (a + d ≡ c + b))
-    (λ k j p q. (λ h. omega (arith, same-pos k j h), λ h. ap pos (omega arith)))
-    (λ k j p q. (λ h. absurd (apart k j h), λ h. absurd (omega arith)))
-    (λ k j p q. (λ h. absurd (apart j k (sym h)), λ h. absurd (omega arith)))
-    (λ k j p q. (λ h. omega (arith, same-neg k j h), λ h. ap negsuc (omega arith)))
+    (λ k j p q. (λ h. let e : k ≡ j = cc in omega arith, λ h. ap pos (omega arith)))
+    (λ k j p q. (λ h. absurd (pos-ne-negsuc k j h), λ h. absurd (omega arith)))
+    (λ k j p q. (λ h. absurd (pos-ne-negsuc j k (sym h)), λ h. absurd (omega arith)))
+    (λ k j p q. (λ h. let e : k ≡ j = cc in omega arith, λ h. ap negsuc (omega arith)))
 
 -- ---- ℤ is all differences
 

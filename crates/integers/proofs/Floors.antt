@@ -1,8 +1,8 @@
 -- `floorDiv` is the floor, over every divisor above 0. Assumes nothing.
 use mathlib.Core.Path.{_≡_, sym, ap}
 use mathlib.Core.Logic.{_↔_}
-use Prim.Native.Nat.{ℕ, suc, _+_, _-_, _%_, _<_, _≤_}
-use native.Mathlib.Nat.{div-add-mod', mod-lt, mod-eq-of-lt, mod-self, mod-one, suc-mod, div-le-self}
+use Prim.Native.Nat.{ℕ, suc, _-_, _%_, _<_}
+use native.Mathlib.Nat.{div-add-mod', mod-lt, mod-eq-of-lt, mod-self, mod-one, suc-mod}
 use native.Mathlib.Decide.{decLt}
 use native.Mathlib.Omega.{arith}
 use lib.Dec.{T}
@@ -37,10 +37,6 @@ floor-high n d p = go (floorDiv n d) n (rest n d) (rest-is n d p) (rest-< n d p)
   where
     go : (q n : ℤ) (r : ℕ) → n ≡ q *ℤ pos d +ℤ pos r → r < d → n <ℤ (q *ℤ pos d +ℤ pos d)
     go = by⊖ _ λ a a′. by⊖ _ λ b b′. simp ⊖s (omega arith)
-
-pub natAbs-floor : (n : ℤ) (d : ℕ) → natAbs (floorDiv n d) ≤ natAbs n
-natAbs-floor (pos n) d = div-le-self n d
-natAbs-floor (negsuc n) d = omega (arith, div-le-self n d)
 
 -- nothing is left exactly where the size is a multiple
 last-rest : (d n : ℕ) → 0 < d → (suc n % d ≡ 0) ↔ (d - suc (n % d) ≡ 0)

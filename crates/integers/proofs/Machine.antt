@@ -1,14 +1,14 @@
 -- Signed numbers as the machine works with them: read back from bits, tested, cast, divided toward zero, added. Over any width.
 -- Assumes nothing.
-use mathlib.Core.Bool.{Bool, true, false, cond, true≢false, false≢true}
+use mathlib.Core.Bool.{true, false, true≢false, false≢true}
 use mathlib.Core.Path.{_≡_, refl, sym, ap, _∙_}
-use Prim.Native.Nat.{ℕ, zero, suc, _+_, _-_, _*_, _/_, _%_, _<_, _≤_, _^_, zero-le}
+use Prim.Native.Nat.{ℕ, zero, suc, _+_, _*_, _/_, _%_, _<_, _≤_, _^_, zero-le}
 use native.Mathlib.Decide.{decLt}
 use native.Mathlib.Nat.{div-add-mod', mod-lt, div-le-self, mul-div-cancel, mul-mod-left, suc-mul, le-refl}
 use native.Mathlib.Omega.{arith}
 use lib.Arith.{digits-div, digits-mod}
-use lib.Dec.{T, ltb}
-use lib.IntN.{ℤ, pos, negsuc, negℤ, predℤ, natAbs, subℕ, _+ℤ_, _-ℤ_, -ℤ-one}
+use lib.Dec.{T}
+use lib.IntN.{ℤ, pos, negsuc, negℤ, natAbs, _+ℤ_, _-ℤ_}
 use lib.Signed.{mag, ltZ, quotZ, remZ, mag-rem, nonNeg}
 use mir.Facts.{toZ-ofZ, toZ-pos}
 use mir.Syntax.{Width, w64}
@@ -16,6 +16,7 @@ use mir.Val.{Fits, SFits, hbits, toZ, ofZ}
 use mir.ValLaws.{sfits-le, half-full}
 use borrow.Author.Tests.{ltb-true, le-ltb}
 use Rattle.integers.specs.Integers.{floorDiv}
+use Rattle.integers.proofs.Differences.{_⊖_, by⊖, ⊖-add, ⊖-natAbs, ⊖s}
 
 -- ---- a number as the machine reads it back from its bits: itself, where it fits
 
@@ -91,11 +92,7 @@ next n d h = go (decLt (suc (n % d)) d)
         turn (rw e (mul-mod-left (suc (n / d)) d)) (rw e (mul-div-cancel (suc (n / d)) h))
 
 one-less : (q : ℕ) → negℤ (pos q) -ℤ pos 1 ≡ negsuc q
-one-less q = -ℤ-one (negℤ (pos q)) ∙ go q
-  where
-    go : (q : ℕ) → predℤ (negℤ (pos q)) ≡ negsuc q
-    go zero = refl
-    go (suc q) = refl
+one-less q = simp ⊖s (omega arith)
 
 -- a negative remainder: one below the quotient; any other: the quotient
 below : (z : ℤ) (d : ℕ) → 0 < d → ltZ (remZ z (pos d)) (pos 0) ≡ true → quotZ z (pos d) -ℤ pos 1 ≡ floorDiv z d
@@ -152,23 +149,11 @@ module _ {w : Width} {z y : ℤ} {d : ℕ} (f : SFits w z) (p : y ≡ pos d) (h 
 
 -- ---- sums that fit
 
-sub-abs : (a b : ℕ) → natAbs (subℕ a b) ≤ a + b
-sub-abs a b = go (ltb a b) refl
-  where
-    go : (t : Bool) → ltb a b ≡ t → natAbs (cond t (negsuc (b - suc a)) (pos (a - b))) ≤ a + b
-    go true e = let h : a < b = ltb-true a b e in omega arith
-    go false e = omega arith
-
 pub sum-abs : (a b : ℤ) → natAbs (a +ℤ b) ≤ natAbs a + natAbs b
-sum-abs (pos a) (pos b) = le-refl (a + b)
-sum-abs (pos a) (negsuc b) = sub-abs a (suc b)
-sum-abs (negsuc a) (pos b) = omega (arith, sub-abs b (suc a))
-sum-abs (negsuc a) (negsuc b) = omega arith
-
-neg-abs : (a : ℤ) → natAbs (negℤ a) ≡ natAbs a
-neg-abs (pos zero) = refl
-neg-abs (pos (suc a)) = refl
-neg-abs (negsuc a) = refl
+sum-abs = by⊖ _ λ a a′. by⊖ _ λ b b′.
+    let x = ⊖-natAbs a a′ (natAbs (a ⊖ a′)) .0 (le-refl _) in
+    let y = ⊖-natAbs b b′ (natAbs (b ⊖ b′)) .0 (le-refl _) in
+    rw ⊖-add (⊖-natAbs (a + b) (a′ + b′) _ .1 (omega arith))
 
 -- a number whose size is below half the width's power
 pub abs-fits : {w : Width} (z : ℤ) → natAbs z < 2 ^ hbits w → SFits w z
@@ -184,14 +169,11 @@ module _ {w : Width} {a b : ℤ} (fa : SFits w a) (fb : SFits w b) (h : natAbs a
 
 -- the difference of two numbers without a sign, cast to one
 module _ (w : Width) (a b : ℕ) (h : a + b < 2 ^ hbits w) where
-  signed-a : toZ w a ≡ pos a
-  signed-a = toZ-pos w (omega arith)
-
-  signed-b : toZ w b ≡ pos b
-  signed-b = toZ-pos w (omega arith)
+  signed : toZ w a -ℤ toZ w b ≡ pos a -ℤ pos b
+  signed = rw (toZ-pos w {n = a} (omega arith), toZ-pos w {n = b} (omega arith))
 
   pub minus-fits : SFits w (toZ w a -ℤ toZ w b)
-  minus-fits = rw (signed-a, signed-b) (abs-fits (pos a -ℤ pos b) (omega (arith, sum-abs (pos a) (negℤ (pos b)), neg-abs (pos b))))
+  minus-fits = rw signed (record { sfits = simp ⊖s (omega arith) })
 
   pub minus-is : back w (toZ w a -ℤ toZ w b) ≡ pos a -ℤ pos b
-  minus-is = toZ-ofZ minus-fits ∙ rw (signed-a, signed-b)
+  minus-is = toZ-ofZ minus-fits ∙ signed

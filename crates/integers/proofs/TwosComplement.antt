@@ -2,7 +2,7 @@
 use mathlib.Core.Path.{_≡_, refl, ap, _∙_}
 use mathlib.Core.Bool.{Bool, true, false, cond}
 use mathlib.Core.List.{List}
-use Prim.Native.Nat.{ℕ, zero, suc, _+_, _-_, _^_, _<_, _≤_}
+use Prim.Native.Nat.{ℕ, _+_, _-_, _^_, _<_, _≤_}
 use native.Mathlib.Omega.{arith}
 use lib.Dec.{ltb}
 use lib.IntN.{ℤ, pos, negsuc, _-ℤ_}
@@ -11,10 +11,11 @@ use lib.Signed.{mag}
 use mir.Facts.{toZ-ofZ, toZ-pos}
 use mir.Syntax.{w64}
 use mir.Val.{SFits, toZ}
-use borrow.Author.Tests.{lt-ltb, le-ltb, ltb-true, ltb-false}
+use borrow.Author.Tests.{lt-ltb, le-ltb}
 use Rattle.numbers.specs.Words.{bytesOf, word64, Bytes}
 use Rattle.numbers.proofs.Words.{word64-small, word64-back, word64-bytes}
 use Rattle.integers.specs.Integers.{mostWord, twosComplement, signedOf, signedWord}
+use Rattle.integers.proofs.Differences.{⊖s}
 use Rattle.integers.proofs.Machine.{back}
 
 -- ---- words
@@ -35,13 +36,6 @@ module _ (word : ℕ) (h : word < 256 ^ 8) where
       go true = refl
       go false = omega arith
 
-  pub signed-fits : mag (signedOf word) < 2 ^ 63
-  signed-fits = go (ltb word (2 ^ 63)) refl
-    where
-      go : (t : Bool) → ltb word (2 ^ 63) ≡ t → mag (cond t (pos word) (negsuc (mostWord - word))) < 2 ^ 63
-      go true e = ltb-true word (2 ^ 63) e
-      go false e = omega (arith, ltb-false word (2 ^ 63) e)
-
 -- ---- the eight bytes at a place
 
 module _ (bytes : List ℕ) (at : ℕ) where
@@ -56,8 +50,7 @@ module _ (bytes : List ℕ) (at : ℕ) where
 
 -- −1 less how far the word is below the highest
 less : (n : ℕ) → negsuc 0 -ℤ pos n ≡ negsuc n
-less zero = refl
-less (suc n) = ap negsuc (omega arith)
+less n = simp ⊖s (omega arith)
 
 module _ (n : ℕ) (h : n < 2 ^ 63) where
   less-is : negsuc 0 -ℤ toZ w64 n ≡ negsuc n

@@ -29,23 +29,9 @@ module _ (xs ys : List ℕ) where
   pub same-iff : (same xs ys ≡ true) ↔ (xs ≡ ys)
   same-iff = (same-is xs ys, is-same)
 
-  -- not the same, where they differ; and back
   pub not-same : (xs ≡ ys → ⊥) → same xs ys ≡ false
   not-same n = go (same xs ys) refl
     where
       go : (t : Bool) → same xs ys ≡ t → same xs ys ≡ false
       go true e = absurd (n (same-is xs ys e))
       go false e = e
-
-  pub same-not : same xs ys ≡ false → xs ≡ ys → ⊥
-  same-not e p = true≢false (sym (is-same p) ∙ e)
-
-pub same-sym : (xs ys : List ℕ) → same xs ys ≡ same ys xs
-same-sym xs ys = go (same xs ys) refl
-  where
-    go : (t : Bool) → same xs ys ≡ t → same xs ys ≡ same ys xs
-    go true e = e ∙ sym (is-same ys xs (sym (same-is xs ys e)))
-    go false e = e ∙ sym (not-same ys xs λ p. same-not xs ys e (sym p))
-
-pub same-trans : (xs ys zs : List ℕ) → same xs ys ≡ true → same ys zs ≡ true → same xs zs ≡ true
-same-trans xs ys zs e f = is-same xs zs (same-is xs ys e ∙ same-is ys zs f)

@@ -1,10 +1,9 @@
 -- How large sums are of readings none of which is too large. Assumes nothing.
 use mathlib.Core.Path.{_≡_}
-use mathlib.Core.List.{List, map}
-use Prim.Native.Nat.{ℕ, _+_, _*_, _-_, _<_, _≤_}
+use mathlib.Core.List.{List}
+use Prim.Native.Nat.{ℕ, _+_, _*_, _<_, _≤_}
 use native.Mathlib.Omega.{arith}
 use lib.ListN.{length, getD}
-use Rattle.numbers.specs.Lists.{sum}
 use Rattle.numbers.specs.Slots.{slotsOfDay, daysBack, windowSlots}
 use Rattle.readings.specs.Readings.{mostReading, readingCount, firstLarge, reading, windowSum, windowSums, lastWindow, earlierSlot}
 use Rattle.readings.specs.Readings.{slotSum, slotSums, earlierUse, Back}

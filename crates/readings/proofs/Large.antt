@@ -21,10 +21,6 @@ first-bound readings (suc n) = go (ltb mostReading (word32 readings 0)) (first-b
     go true h = omega arith
     go false h = omega arith
 
--- no reading is found, so that none is too large
-pub none-found : (readings : List ℕ) (n : ℕ) → n ≤ firstLarge readings n → firstLarge readings n ≡ n
-none-found readings n h = omega (arith, first-bound readings n)
-
 module _ (readings : List ℕ) where
   word-from : (at : ℕ) → word32 (drop at readings) 0 ≡ word32 readings at
   word-from at = simp (getD-drop, add-zero, add-assoc)
@@ -88,7 +84,7 @@ module _ (readings : List ℕ) where
     pub left-none-in : (k found : ℕ) → found ≡ i + from i (i + k - i) → i + k ≤ found → from i k ≡ k
     left-none-in k found e h =
         let m : i + k - i ≡ k = omega arith in
-        none-found (drop (i * readingLength) readings) k (omega (arith, rw m at e))
+        omega (arith, first-bound (drop (i * readingLength) readings) k, rw m at e)
 
     pub left-found-in : (k found : ℕ) → found ≡ i + from i (i + k - i) → found < i + k → i + k ≤ n → i + from i (n - i) ≡ found
     left-found-in k found e h l =

@@ -1,6 +1,6 @@
 -- Packed readings: where they are small together, each of them is. Assumes nothing.
 use mathlib.Core.Path.{_≡_, ap, _∙_}
-use mathlib.Core.Bool.{Bool, false, not, _&&_}
+use mathlib.Core.Bool.{Bool, false, not}
 use mathlib.Core.List.{List}
 use Prim.Native.Nat.{ℕ, _+_, _/_, _%_, _^_, _≤_}
 use native.Mathlib.Omega.{arith}
@@ -24,12 +24,9 @@ small-left a b s = (
   omega (arith, s .1, or-byte a b 32, or-above (a / 4294967296 % 256) (b / 4294967296 % 256)),
 )
 
-small-right : (a b : ℕ) → Small (bitOr a b) → Small b
-small-right a b s = small-left b a (rw (or-comm b a) s)
-
 -- k readings from reading i on, and n behind them
 pub passes-or : (readings : List ℕ) (i k n a b : ℕ) → Passes readings i k a → Passes readings (i + k) n b → Passes readings i (k + n) (bitOr a b)
-passes-or readings i k n a b p q s = join readings k n i (p (small-left a b s)) (q (small-right a b s))
+passes-or readings i k n a b p q s = join readings k n i (p (small-left a b s)) (q (small-left b a (rw (or-comm b a) s)))
 
 -- what the test of the two bytes tells
 pub small-of : (x : ℕ) (t : Bool) → t ≡ isSmall x → not t ≡ false → Small x

@@ -1,12 +1,12 @@
 -- Sums of readings: of six that follow each other, of some days, and how large they are. Assumes nothing.
-use mathlib.Core.Path.{_≡_, refl, sym, ap, _∙_}
+use mathlib.Core.Path.{_≡_, refl, ap, _∙_}
 use mathlib.Core.List.{List, [], _∷_, _++_, map, map-id}
 use Prim.Native.Nat.{ℕ, zero, suc, _+_, _*_, _<_, _≤_}
 use native.Mathlib.Nat.{zero-add, add-zero, add-suc, suc-add, add-assoc, suc-mul, mul-suc}
 use native.Mathlib.Numerals.{add-one}
 use native.Mathlib.Omega.{arith}
-use lib.ListN.{length, getD, take, drop, drop-of-length-le}
-use lib.Seq.{take-suc, take-all, drop-cons}
+use lib.ListN.{length, getD, drop, drop-of-length-le}
+use lib.Seq.{drop-cons}
 use Rattle.numbers.specs.Lists.{run, sum}
 use Rattle.numbers.proofs.Filling.{sum-more}
 
@@ -41,9 +41,6 @@ module _ (f : ℕ → ℕ) where
   sum-days [] d = rw (add-zero, zero-add)
   sum-days (x ∷ xs) d = rw (sum-days xs d, add-assoc)
 
-  pub sum-take : (days : List ℕ) (i : ℕ) → i < length days → sum (map f (take (i + 1) days)) ≡ sum (map f (take i days)) + f (getD days i 0)
-  sum-take days i h = rw (add-one, take-suc days i 0) (sum-days (take i days) (getD days i 0))
-
   -- the days from a place on
   pub sum-drop : (days : List ℕ) (i : ℕ) → i < length days → sum (map f (drop i days)) ≡ f (getD days i 0) + sum (map f (drop (i + 1) days))
   unfolding sum
@@ -63,20 +60,14 @@ module _ (f : ℕ → ℕ) where
 
   -- four days, place by place
   pub four : (days : List ℕ) → length days ≡ 4 → sum (map f days) ≡ f (getD days 0 0) + f (getD days 1 0) + f (getD days 2 0) + f (getD days 3 0)
-  unfolding sum
   four days h =
-      let all : days ≡ take 4 days = sym (take-all 4 days (omega arith)) in
-      ap (λ xs. sum (map f xs)) all
-      ∙ sum-take days 3 (omega arith)
-      ∙ rw (sum-take days 2 (omega arith), sum-take days 1 (omega arith), sum-take days 0 (omega arith), zero-add)
+      let d = sum-drop days in
+      omega (arith, d 0 (omega arith), d 1 (omega arith), d 2 (omega arith), d 3 (omega arith), sum-drop-end days 4 (omega arith))
 
 -- six numbers, place by place
 pub six-places : (xs : List ℕ) → length xs ≡ 6
     → sum xs ≡ getD xs 0 0 + getD xs 1 0 + getD xs 2 0 + getD xs 3 0 + getD xs 4 0 + getD xs 5 0
-unfolding sum
 six-places xs h =
-    let more = sum-take (λ x. x) xs in
-    let all : xs ≡ map (λ x. x) (take 6 xs) = sym (map-id _ ∙ take-all 6 xs (omega arith)) in
-    ap sum all
-    ∙ more 5 (omega arith)
-    ∙ rw (more 4 (omega arith), more 3 (omega arith), more 2 (omega arith), more 1 (omega arith), more 0 (omega arith), zero-add)
+    let d = sum-drop (λ x. x) xs in
+    let last = sum-drop-end (λ x. x) xs 6 (omega arith) in
+    omega (arith, ap sum (map-id xs), d 0 (omega arith), d 1 (omega arith), d 2 (omega arith), d 3 (omega arith), d 4 (omega arith), d 5 (omega arith))

@@ -39,7 +39,8 @@ fn first_large_from(readings: &[u8], start: usize, n: usize) -> usize
 
 // The four bytes of a reading, its high byte lowest. Where that is small, so is the reading.
 fn turned(a: u8, b: u8, c: u8, d: u8) -> u32
-    ensures { λ r. ⌜ (r ≡ a + b * 256 + (c + d * 256) * 65536) × (r % 256 < 32 → (a * 256 + b) * 65536 + (c * 256 + d) ≤ mostReading) ⌝ }
+    ensures { λ r. ⌜ r ≡ a + b * 256 + (c + d * 256) * 65536 ⌝ }
+    ensures { λ r. ⌜ (r % 256 < 32 → (a * 256 + b) * 65536 + (c * 256 + d) ≤ mostReading) ⌝ }
 {
     (a as u32) + (b as u32) * 256 + ((c as u32) + (d as u32) * 256) * 65536
 }

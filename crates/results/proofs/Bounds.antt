@@ -3,7 +3,7 @@ use mathlib.Core.Path.{_≡_}
 use mathlib.Core.Bool.{Bool, false, true≢false}
 use mathlib.Core.List.{List}
 use Prim.Native.Nat.{ℕ, _+_, _*_, _-_, _≤_, _<_}
-use native.Mathlib.Nat.{le-trans, le-antisymm, lt-of-mul-lt-mul-right}
+use native.Mathlib.Nat.{le-antisymm, lt-of-mul-lt-mul-right}
 use native.Mathlib.Omega.{arith}
 use lib.Dec.{T, ltb}
 use lib.IntN.{ℤ, pos, natAbs, _+ℤ_, _-ℤ_, _*ℤ_}
@@ -13,9 +13,8 @@ use mir.Facts.{no-ltb}
 use borrow.Author.Tests.{ltb-false, le-ltb}
 use Rattle.numbers.specs.Lists.{run, any}
 use Rattle.numbers.proofs.Filling.{run-length, any-none}
-use Rattle.integers.specs.Integers.{floorDiv}
 use Rattle.integers.proofs.Differences.{by⊖, ⊖s}
-use Rattle.integers.proofs.Floors.{natAbs-floor, floor-low, floor-high}
+use Rattle.integers.proofs.Floors.{floor-low, floor-high}
 use Rattle.readings.specs.Readings.{mostReading, firstLarge}
 use Rattle.readings.proofs.Large.{none-large, first-bound}
 use Rattle.readings.proofs.Bounds.{reading-bound}
@@ -24,6 +23,7 @@ use Rattle.heads.specs.Limits.{mostLoss, mostBaseline, mostResult}
 use Rattle.heads.specs.Heads.{testDay}
 use Rattle.heads.proofs.Opening.{Opens}
 use Rattle.points.specs.Points.{Kind, consumer, generator, unknown, isUnknown, isUnfit, hasLarge, readingsOf, readingCount, baselineOf}
+use Rattle.results.proofs.SlotResults.{floor-one}
 use Rattle.results.specs.SlotResults.{Quotient, lossOf, consumerQuotient, generatorQuotient, quotients, rounded, results}
 use Rattle.heads.specs.declared.Head.{Head}
 use Rattle.numbers.proofs.Tests.{no-false, noneOf, none-run}
@@ -45,29 +45,22 @@ isBeyond most z = ltb most (natAbs z)
 pub none-beyond : (most : ℕ) (zs : List ℤ) → T (noneOf (isBeyond most) zs) → (i : ℕ) → natAbs (getD zs i (pos 0)) ≤ most
 none-beyond most zs t i = ltb-false _ _ (any-none (isBeyond most) (pos 0) (le-ltb most 0 (omega arith)) zs (no-false _ t) i)
 
--- a slot result lies between −2,000,000,000 and 4,000,000,000: b the baseline in twenty-fourths, u the use, p = 10,000 − loss
-slot-bound : (b u p : ℕ) → b ≤ 48_000_000_000 → u ≤ 1_000_000_000 → 5_000 ≤ p
-    → natAbs (floorDiv ((pos b -ℤ pos (24 * u)) *ℤ pos 10_000) (24 * p)) ≤ 4_000_000_000
-slot-bound b u p hb hu hp =
-    let n = (pos b -ℤ pos (24 * u)) *ℤ pos 10_000 in
-    go (floorDiv n (24 * p)) (floor-low n (24 * p) (omega arith)) (floor-high n (24 * p) (omega arith))
+-- b the baseline in twenty-fourths, u the use: between −2,000,000,000 and 4,000,000,000
+consumer-small : (loss b u : ℕ) → loss ≤ mostLoss → b ≤ 48 * mostReading → u ≤ mostReading
+    → natAbs (rounded (consumerQuotient loss b u)) ≤ mostResult
+consumer-small loss b u hl hb hu =
+    let q = consumerQuotient loss b u in
+    go (10_000 - loss) (omega arith) (rounded q) (floor-low (q .num) (q .den) (omega arith)) (floor-high (q .num) (q .den) (omega arith))
   where
-    go : (q : ℤ) → (q *ℤ pos (24 * p)) ≤ℤ ((pos b -ℤ pos (24 * u)) *ℤ pos 10_000)
-        → ((pos b -ℤ pos (24 * u)) *ℤ pos 10_000) <ℤ (q *ℤ pos (24 * p) +ℤ pos (24 * p)) → natAbs q ≤ 4_000_000_000
-    go = by⊖ _ λ a a′. simp ⊖s λ l h.
+    go : (p : ℕ) → 5_000 ≤ p → (q : ℤ) → (q *ℤ pos (24 * p)) ≤ℤ (consumerQuotient loss b u .num)
+        → (consumerQuotient loss b u .num) <ℤ (q *ℤ pos (24 * p) +ℤ pos (24 * p)) → natAbs q ≤ mostResult
+    go p hp = by⊖ _ λ a a′. simp ⊖s λ l h.
         let i : a < a′ + 4_000_000_001 = lt-of-mul-lt-mul-right p (omega arith) in
         let j : a′ < a + 2_000_000_002 = lt-of-mul-lt-mul-right p (omega arith) in
         omega arith
 
-consumer-small : (loss base used : ℕ) → loss ≤ mostLoss → base ≤ 48 * mostReading → used ≤ mostReading
-    → natAbs (rounded (consumerQuotient loss base used)) ≤ mostResult
-consumer-small loss base used hl hb hu = slot-bound base used (10_000 - loss) hb hu (omega arith)
-
 generator-small : (kW metered : ℕ) → kW ≤ mostBaseline → metered ≤ mostReading → natAbs (rounded (generatorQuotient kW metered)) ≤ mostResult
-generator-small kW metered hk hm = le-trans (natAbs-floor (pos metered -ℤ pos (500 * kW)) 1) (go metered (500 * kW) (omega arith) (omega arith))
-  where
-    go : (a b : ℕ) → a ≤ 1_000_000_000 → b ≤ 500_000_000 → natAbs (pos a -ℤ pos b) ≤ 4_000_000_000
-    go a b ha hb = simp ⊖s (omega arith)
+generator-small kW metered hk hm = rw (floor-one (pos metered -ℤ pos (500 * kW))) (simp ⊖s (omega arith))
 
 -- ---- by kind of point: a line for each
 

@@ -7,18 +7,9 @@ use Rattle.calendar.proofs.Dates.{parts, count-least, count-most}
 use Rattle.calendar.proofs.day_count.Statement.{statement}
 use Rattle.calendar.proofs.day_count.Tie as tie
 
-sub-years : tie.Need-sub-years
-sub-years c = let p = parts _ _ _ (c .pre) in omega arith
-
-days-before-requires : tie.Need-days-before-requires
-days-before-requires c κs = parts _ _ _ (c .pre) .is-month
-
 add-result-3 : tie.Need-add-result-3
 unfolding dayCount
 add-result-3 c = omega (arith, count-most _ _ _ (c .before .pre))
-
-sub-result : tie.Need-sub-result
-sub-result c = let p = parts _ _ _ (c .before .pre) in p .first-day
 
 add-result-4 : tie.Need-add-result-4
 unfolding dayCount
@@ -34,14 +25,14 @@ pub day-count-spec : {M : Type 1} → statement M
 day-count-spec =
     tie.close
     (tie.spec
-    sub-years
+    (λ c. let p = parts _ _ _ (c .pre) in omega arith)
     (λ c. search needs)
     (λ c. search needs)
     (λ c. search needs)
     (λ c. search needs)
-    days-before-requires
+    (λ c κs. parts _ _ _ (c .pre) .is-month)
     add-result-3
-    sub-result
+    (λ c. parts _ _ _ (c .before .pre) .first-day)
     (λ c. search needs)
     add-result-4
     returns)

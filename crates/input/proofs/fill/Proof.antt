@@ -1,7 +1,6 @@
 -- The bytes are filled from the front: what is done stays within them.
-use mathlib.Core.Path.{_≡_, refl}
+use mathlib.Core.Path.{_≡_}
 use Prim.Native.Nat.{_≤_, _-_}
-use native.Mathlib.Omega.{arith}
 use lib.ListN.{length}
 use borrow.Author.Needs.{needs}
 use Rattle.input.proofs.fill.Statement.{statement}
@@ -13,16 +12,13 @@ Inv-loop bytes₀ done₀ bytes done = (done ≤ length bytes) × (length bytes 
 abbrev μ-loop : tie.MeasureT-loop
 μ-loop bytes₀ done₀ bytes done = length bytes - done
 
-loop-holds : tie.Need-loop-holds Inv-loop μ-loop
-loop-holds c = (omega arith, refl)
-
 pub fill-spec : {M : Type 1} → statement M
 fill-spec =
     tie.close
     (tie.spec
     Inv-loop
     μ-loop
-    loop-holds
+    (λ c. search needs)
     (λ c. search needs)
     (λ c. search needs)
     (λ c. search needs)

@@ -4,26 +4,21 @@ use Prim.Native.Nat.{_≤_, _+_, _-_}
 use native.Mathlib.Numerals.{add-one}
 use native.Mathlib.Omega.{arith}
 use lib.ListN.{length, getD, set}
-use lib.Seq.{paste, paste-zero, paste-suc, length-paste}
+use lib.Seq.{paste, paste-zero, paste-suc}
 use borrow.Author.Needs.{needs}
 use Rattle.numbers.proofs.Places.{pasted}
 use Rattle.lines.proofs.put.Statement.{statement}
 use Rattle.lines.proofs.put.Tie as tie
 
 abbrev Inv-loop : tie.InvT-loop
-Inv-loop text at out₀ size i₀ out i = (i ≤ size) × (size ≡ length text) × (at + size ≤ length out₀) × (out ≡ paste out₀ at text i)
+Inv-loop text at out₀ size i₀ out i =
+    (i ≤ size) × (size ≡ length text) × (at + size ≤ length out₀) × (length out ≡ length out₀) × (out ≡ paste out₀ at text i)
 
 abbrev μ-loop : tie.MeasureT-loop
 μ-loop text at out₀ size i₀ out i = size - i
 
 loop-holds : tie.Need-loop-holds Inv-loop μ-loop
-loop-holds c = (search needs, refl, search needs, paste-zero (c .args .out .now) (c .args .at) (c .args .text .now))
-
-slice-write-out : tie.Need-slice-write-out Inv-loop μ-loop
-slice-write-out c =
-    let s = c .before .before .before in
-    let l = c .before .before .loop in
-    omega (arith, ap length (l .inv .3) ∙ length-paste (s .args .out .now) (s .args .at) (s .args .text .now) (l .i) (omega arith) (omega arith))
+loop-holds c = (search needs, refl, search needs, refl, paste-zero (c .args .out .now) (c .args .at) (c .args .text .now))
 
 loop-again : tie.Need-loop-again Inv-loop μ-loop
 loop-again c =
@@ -34,15 +29,10 @@ loop-again c =
       search needs,
       refl,
       l .inv .2,
-      ap (λ y. set y (s .args .at + l .i) (getD v (l .i) 0)) (l .inv .3) ∙ paste-suc o (s .args .at) v (l .i) 0 (omega arith) (omega arith)
+      search needs,
+      ap (λ y. set y (s .args .at + l .i) (getD v (l .i) 0)) (l .inv .4) ∙ paste-suc o (s .args .at) v (l .i) 0 (omega arith) (omega arith)
           ∙ ap (paste o (s .args .at) v) (sym (add-one (l .i))),
     )
-
-same-length : tie.Need-same-length Inv-loop μ-loop
-same-length c =
-    let s = c .before .before in
-    let l = c .before .loop in
-    ap length (l .inv .3) ∙ length-paste (s .args .out .now) (s .args .at) (s .args .text .now) (l .i) (omega arith) (omega arith)
 
 returns : tie.Need-returns Inv-loop μ-loop
 returns c =
@@ -52,7 +42,7 @@ returns c =
     record {
       ends = refl;
       within = omega arith;
-      bytes = l .inv .3 ∙ ap (paste (s .args .out .now) (s .args .at) (s .args .text .now)) e ∙ pasted (s .args .text .now) (s .args .at) (s .args .out .now);
+      bytes = l .inv .4 ∙ ap (paste (s .args .out .now) (s .args .at) (s .args .text .now)) e ∙ pasted (s .args .text .now) (s .args .at) (s .args .out .now);
     }
 
 pub put-spec : {M : Type 1} → statement M
@@ -64,10 +54,10 @@ put-spec =
     loop-holds
     (λ c. search needs)
     (λ c. search needs)
-    slice-write-out
+    (λ c. search needs)
     (λ c. search needs)
     (λ c. search needs)
     loop-again
     (λ c. search needs)
-    same-length
+    (λ c. search needs)
     returns)

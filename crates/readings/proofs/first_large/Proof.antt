@@ -22,9 +22,6 @@ abbrev μ-loop : tie.MeasureT-loop
 loop-holds : tie.Need-loop-holds Inv-loop μ-loop
 loop-holds c = (search needs, search needs, simp (zero-add, sub-zero))
 
-first-large-from-requires : tie.Need-first-large-from-requires Inv-loop μ-loop
-first-large-from-requires c κs = (omega arith, omega arith)
-
 returns : tie.Need-returns Inv-loop μ-loop
 returns c =
     let l = c .before .before .before .before .before .before .loop in
@@ -42,9 +39,6 @@ loop-again c =
     in
     (omega arith, l .inv .1, l .inv .2 ∙ left-pass s (l .i) _ 16 (omega arith) none)
 
-returns-2 : tie.Need-returns-2 Inv-loop μ-loop
-returns-2 c = c .first-large-from2 .ensures ∙ sym (c .before .before .loop .inv .2)
-
 pub first-large-spec : {M : Type 1} → statement M
 first-large-spec =
     tie.close
@@ -56,11 +50,11 @@ first-large-spec =
     (λ c κs. omega arith)
     (λ c κs. search needs)
     (λ c. omega arith)
-    first-large-from-requires
+    (λ c κs. search needs)
     (λ c. omega arith)
     returns
     (λ c. omega arith)
     (λ c. omega arith)
     loop-again
     (λ c κs. omega arith)
-    returns-2)
+    (λ c. search needs))

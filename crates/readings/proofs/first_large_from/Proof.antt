@@ -1,5 +1,5 @@
 -- `first_large_from` meets its contract. The invariant: the first too large reading is the first from reading i on. Assumes nothing.
-use mathlib.Core.Path.{_≡_, refl, sym, _∙_}
+use mathlib.Core.Path.{_≡_, sym, _∙_}
 use Prim.Native.Nat.{_≤_, _-_, _+_, _*_}
 use native.Mathlib.Omega.{arith}
 use lib.ListN.{length}
@@ -15,9 +15,6 @@ Inv-loop readings start n i₀ i =
 
 abbrev μ-loop : tie.MeasureT-loop
 μ-loop readings start n i₀ i = n - i
-
-loop-holds : tie.Need-loop-holds Inv-loop μ-loop
-loop-holds c = (search needs, search needs, refl)
 
 returns : tie.Need-returns Inv-loop μ-loop
 returns c =
@@ -43,7 +40,7 @@ first-large-from-spec =
     (tie.spec
     Inv-loop
     μ-loop
-    loop-holds
+    (λ c. search needs)
     (λ c. omega arith)
     (λ c κs. omega arith)
     returns

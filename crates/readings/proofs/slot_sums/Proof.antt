@@ -16,9 +16,6 @@ Inv-loop readings days slot sums₀ j₀ sums j = Filled (replicate windowSlots 
 abbrev μ-loop : tie.MeasureT-loop
 μ-loop readings days slot sums₀ j₀ sums j = windowSlots - j
 
-slot-sum-requires : tie.Need-slot-sum-requires Inv-loop μ-loop
-slot-sum-requires c κs = let s = c .before .before .before in (s .pre .0, omega arith, s .pre .2)
-
 returns : tie.Need-returns Inv-loop μ-loop
 unfolding slotSums
 returns c = filled-all (c .before .loop .inv) (omega arith)
@@ -31,7 +28,7 @@ slot-sums-spec =
     μ-loop
     (λ c. filled-none refl)
     (λ c. search needs)
-    slot-sum-requires
+    (λ c κs. search needs)
     (λ c. search needs)
     (λ c. search needs)
     (λ c. search needs)

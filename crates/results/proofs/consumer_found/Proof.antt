@@ -7,15 +7,6 @@ use Rattle.numbers.proofs.Parts.{rest-of}
 use Rattle.results.proofs.Consumers.{dated, classed, lossy, tested, too-few, baselines-small, consumer-results}
 use Rattle.results.proofs.consumer_found.Statement.{statement}
 use Rattle.results.proofs.consumer_found.Tie as tie
-use Rattle.results.proofs.consumer_found.Reads as reads
-use Rattle.results.proofs.consumer_found.Lts as lts
-use Rattle.baseline.proofs.consumer_baselines.Reads as consumer-baselines-reads
-use Rattle.calendar.proofs.day_count.Reads as day-count-reads
-use Rattle.points.proofs.loss_of.Reads as loss-of-reads
-use Rattle.results.proofs.consumer_results.Reads as consumer-results-reads
-
-day-count-requires : tie.Need-day-count-requires
-day-count-requires c κs = let s = c .before in dated (s .pre)
 
 consumer-baselines-requires : tie.Need-consumer-baselines-requires
 consumer-baselines-requires c κs =
@@ -59,7 +50,7 @@ pub consumer-found-spec : {M : Type 1} → statement M
 consumer-found-spec =
     tie.close
     (tie.spec
-    day-count-requires
+    (λ c κs. dated (c .before .pre))
     (λ c. search needs)
     (λ c. search needs)
     (λ c. search needs)

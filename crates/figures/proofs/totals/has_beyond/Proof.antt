@@ -1,5 +1,5 @@
 -- The totals are passed from the front.
-use mathlib.Core.Path.{_≡_, refl, sym, _∙_}
+use mathlib.Core.Path.{_≡_, sym, _∙_}
 use mathlib.Core.Bool.{Bool}
 use Prim.Native.Nat.{_≤_, _-_}
 use native.Mathlib.Omega.{arith}
@@ -21,9 +21,6 @@ Inv-loop most totals i₀ i =
 
 abbrev μ-loop : tie.MeasureT-loop
 μ-loop most totals i₀ i = 6 - i
-
-loop-holds : tie.Need-loop-holds Inv-loop μ-loop
-loop-holds c = (search needs, search needs, refl)
 
 returns : tie.Need-returns Inv-loop μ-loop
 returns c =
@@ -50,7 +47,7 @@ has-beyond-spec =
     (tie.spec
     Inv-loop
     μ-loop
-    loop-holds
+    (λ c. search needs)
     (λ c. search needs)
     (λ c. search needs)
     (λ c κs. search needs)

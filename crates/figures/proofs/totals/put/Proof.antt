@@ -1,37 +1,29 @@
 -- The places are filled from the front.
-use mathlib.Core.Path.{_≡_, refl, ap, _∙_}
+use mathlib.Core.Path.{_≡_, _∙_}
 use Prim.Native.Nat.{_≤_, _-_}
 use native.Mathlib.Omega.{arith}
 use lib.IntN.{pos}
 use lib.ListN.{length}
 use mir.Facts.{toZ-ofZ}
 use borrow.Author.Needs.{needs, sfits-of}
-use Rattle.numbers.proofs.Filling.{front, front-more, front-all, front-length}
+use Rattle.numbers.proofs.Filling.{front, front-more, front-all}
 use Rattle.figures.proofs.totals.put.Statement.{statement}
 use Rattle.figures.proofs.totals.put.Tie as tie
 
 abbrev Inv-loop : tie.InvT-loop
-Inv-loop places₀ found place₀ places place = (place ≤ 6) × (length found ≡ 6) × (length places₀ ≡ 6) × (places ≡ front places₀ found place)
+Inv-loop places₀ found place₀ places place =
+    (place ≤ 6) × (length found ≡ 6) × (length places₀ ≡ 6) × (length places ≡ 6) × (places ≡ front places₀ found place)
 
 abbrev μ-loop : tie.MeasureT-loop
 μ-loop places₀ found place₀ places place = 6 - place
 
-loop-holds : tie.Need-loop-holds Inv-loop μ-loop
-loop-holds c = (search needs, search needs, search needs, refl)
-
-slice-set-from-places : tie.Need-slice-set-from-places Inv-loop μ-loop
-slice-set-from-places c = let l = c .before .before .loop in omega (arith, ap length (l .inv .3) ∙ front-length _ _ (l .place) (omega arith) (omega arith))
-
 loop-again : tie.Need-loop-again Inv-loop μ-loop
 loop-again c =
     let l = c .before .before .loop in
-    (omega arith, l .inv .1, l .inv .2, rw (toZ-ofZ (sfits-of (c .places .given)), l .inv .3) (front-more _ _ (l .place) (pos 0) (omega arith) (omega arith)))
-
-same-length : tie.Need-same-length Inv-loop μ-loop
-same-length c = let l = c .before .loop in ap length (l .inv .3) ∙ front-length _ _ (l .place) (omega arith) (omega arith)
+    (omega arith, l .inv .1, l .inv .2, search needs, rw (toZ-ofZ (sfits-of (c .places .given)), l .inv .4) (front-more _ _ (l .place) (pos 0) (omega arith) (omega arith)))
 
 returns : tie.Need-returns Inv-loop μ-loop
-returns c = let l = c .before .loop in l .inv .3 ∙ front-all _ _ (l .place) (omega arith) (omega arith)
+returns c = let l = c .before .loop in l .inv .4 ∙ front-all _ _ (l .place) (omega arith) (omega arith)
 
 pub put-spec : {M : Type 1} → statement M
 put-spec =
@@ -39,13 +31,13 @@ put-spec =
     (tie.spec
     Inv-loop
     μ-loop
-    loop-holds
     (λ c. search needs)
     (λ c. search needs)
     (λ c. search needs)
-    slice-set-from-places
+    (λ c. search needs)
+    (λ c. search needs)
     (λ c. search needs)
     (λ c. search needs)
     loop-again
-    same-length
+    (λ c. search needs)
     returns)
