@@ -10,11 +10,11 @@ use Rattle.integers.proofs.Machine.{word-back}
 use Rattle.lines.specs.Numerals.{signed}
 use Rattle.numbers.specs.Placing.{Placed}
 use Rattle.lines.specs.Line.{line}
-use Rattle.printing.specs.Printed.{slotLines}
+use Rattle.figure_lines.specs.FigureLines.{slotLines}
 use Rattle.numbers.proofs.Places.{then, named, nothing}
-use Rattle.printing.proofs.Slots.{slots-none, slot-placed}
-use Rattle.printing.proofs.put_slots.Statement.{statement}
-use Rattle.printing.proofs.put_slots.Tie as tie
+use Rattle.figure_lines.proofs.Slots.{slots-none, slot-placed}
+use Rattle.figure_lines.proofs.put_slots.Statement.{statement}
+use Rattle.figure_lines.proofs.put_slots.Tie as tie
 
 abbrev Inv-loop : tie.InvT-loop
 Inv-loop at out₀ totals end₀ i₀ t9 t10 out end i =

@@ -4,8 +4,8 @@ use Rattle.lines.specs.Numerals.{signed}
 use Rattle.lines.specs.Line.{line}
 use Rattle.numbers.proofs.Places.{then, named}
 use borrow.Author.Needs.{needs}
-use Rattle.printing.proofs.put_settled_lines.Statement.{statement}
-use Rattle.printing.proofs.put_settled_lines.Tie as tie
+use Rattle.figure_lines.proofs.put_settled_lines.Statement.{statement}
+use Rattle.figure_lines.proofs.put_settled_lines.Tie as tie
 
 returns : tie.Need-returns
 returns c =

@@ -1,9 +1,9 @@
 use mathlib.Core.Path.{sym, ap}
-use Rattle.printing.specs.Printed.{bidLine}
+use Rattle.figure_lines.specs.FigureLines.{bidLine}
 use Rattle.numbers.proofs.Places.{named}
 use borrow.Author.Needs.{needs}
-use Rattle.printing.proofs.put_bid.Statement.{statement}
-use Rattle.printing.proofs.put_bid.Tie as tie
+use Rattle.figure_lines.proofs.put_bid.Statement.{statement}
+use Rattle.figure_lines.proofs.put_bid.Tie as tie
 
 returns : tie.Need-returns
 returns c = named (ap bidLine (sym (c .before .before .before .before .before .if1 .taken))) (c .before .before .put .ensures)

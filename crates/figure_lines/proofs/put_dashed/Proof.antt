@@ -1,7 +1,7 @@
 use Rattle.numbers.proofs.Places.{then}
 use borrow.Author.Needs.{needs}
-use Rattle.printing.proofs.put_dashed.Statement.{statement}
-use Rattle.printing.proofs.put_dashed.Tie as tie
+use Rattle.figure_lines.proofs.put_dashed.Statement.{statement}
+use Rattle.figure_lines.proofs.put_dashed.Tie as tie
 
 returns : tie.Need-returns
 returns c =

@@ -1,8 +1,8 @@
 -- Five texts, one behind the other.
 use Rattle.numbers.proofs.Places.{then}
 use borrow.Author.Needs.{needs}
-use Rattle.printing.proofs.put_settled.Statement.{statement}
-use Rattle.printing.proofs.put_settled.Tie as tie
+use Rattle.figure_lines.proofs.put_figures.Statement.{statement}
+use Rattle.figure_lines.proofs.put_figures.Tie as tie
 
 returns : tie.Need-returns
 returns c =
@@ -16,8 +16,8 @@ returns c =
     (then (third .put-slots .ensures .0)
     (then (fourth .put-settled-lines .ensures .0) (fifth .put-capacity-lines .ensures))))
 
-pub put-settled-spec : {M : Type 1} → statement M
-put-settled-spec =
+pub put-figures-spec : {M : Type 1} → statement M
+put-figures-spec =
     tie.close
     (tie.spec
     (λ c κs. search needs)

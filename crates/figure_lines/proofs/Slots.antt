@@ -11,7 +11,7 @@ use Rattle.lines.specs.Ascii.{ascii}
 use Rattle.lines.specs.Numerals.{decimal, signed}
 use Rattle.numbers.specs.Placing.{Placed}
 use Rattle.lines.specs.Line.{line}
-use Rattle.printing.specs.Printed.{slotLines}
+use Rattle.figure_lines.specs.FigureLines.{slotLines}
 use Rattle.numbers.proofs.Places.{named}
 
 -- the line of one slot
