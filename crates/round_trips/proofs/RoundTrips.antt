@@ -29,7 +29,7 @@ use Rattle.ledger.proofs.Sound.{open-refusal, open-good, add-refusal, add-good,
 use Rattle.fields.specs.Fields.{written}
 use Rattle.book.specs.Reading.{good, Points, before, readPoints, Book, bookOf, readBook}
 use Rattle.book.specs.Settling.{settlingRefusal}
-use Rattle.fields.specs.Writing.{roomRow, headWritingRefusal, pointWritingTests, pointWritingRefusal}
+use Rattle.writing.specs.Writing.{roomRow, headWritingRefusal, pointWritingTests, pointWritingRefusal}
 use Rattle.round_trips.specs.Demand2.{risesAfter, rises, headRoom, roomFor, Each, ReadsBack, ReadInFull, WrittenGivesZero, ReadsWritable, WritesSame, writtenBook}
 use Rattle.fields.specs.declared.Due.the-variants as due
 use Rattle.round_trips.proofs.Cutting.{reads-field, was-written}

@@ -15,8 +15,8 @@ use Rattle.results.specs.SlotResults.{lacksDays}
 use Rattle.ledger.specs.Operations.{closeOf}
 use Rattle.book.specs.Reading.{good, Contents, Book, readBook}
 use Rattle.fields.specs.Fields.{written}
-pub use Rattle.fields.specs.Writing.{headRoom}
-use Rattle.fields.specs.Writing.{writtenHead, headWritingRefusal, pointWritingRefusal}
+pub use Rattle.writing.specs.Writing.{headRoom}
+use Rattle.writing.specs.Writing.{writtenHead, headWritingRefusal, pointWritingRefusal}
 use Rattle.book.specs.Settling.{settlingRefusal}
 use Rattle.ledger.specs.Calls.{Call, adding, closing, accepted, closed, program}
 

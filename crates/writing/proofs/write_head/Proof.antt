@@ -6,10 +6,10 @@ use borrow.Author.Needs.{needs}
 use lib.ListN.{length, drop, length-drop, length-take}
 use Rattle.heads.specs.Heads.{headTag, calendarTag, headLength, calendarLength, openingRefusal}
 use Rattle.heads.proofs.Opening.{opening-lengths}
 use Rattle.fields.specs.Fields.{written}
-use Rattle.fields.proofs.Storing.{head-refused, head-room, head-written, written-length, first-length, both-parts}
-use Rattle.fields.proofs.writing.write_head.Statement.{statement}
-use Rattle.fields.proofs.writing.write_head.Tie as tie
+use Rattle.writing.proofs.Storing.{head-refused, head-room, head-written, written-length, first-length, both-parts}
+use Rattle.writing.proofs.write_head.Statement.{statement}
+use Rattle.writing.proofs.write_head.Tie as tie
 
 -- ---- a head that opening accepts
 

@@ -11,8 +11,8 @@ use Rattle.numbers.specs.PointNumbers.{isNumber}
 use Rattle.numbers.specs.Placing.{atFront}
 use Rattle.numbers.proofs.Refusals.{untold, told, passed}
 use Rattle.points.specs.Points.{kindOf, sizeOf, numberOf, formRows, numberRow, valueRows}
 use Rattle.fields.specs.Fields.{written}
-use Rattle.fields.specs.Writing.{roomRow, valueWritingTests, valueWritingRefusal, pointWritingRefusal, pointWritingOut}
+use Rattle.writing.specs.Writing.{roomRow, valueWritingTests, valueWritingRefusal, pointWritingRefusal, pointWritingOut}
 use Rattle.points.proofs.PointKinds.{kind-small}
 
 module _ (tag : ℕ) (value : List ℕ) where

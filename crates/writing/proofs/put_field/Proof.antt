@@ -6,9 +6,9 @@ use native.Mathlib.Omega.{arith}
 use lib.ListN.{length, getD, set}
 use lib.Seq.{paste, paste-zero, paste-suc, length-paste, lt-length-set}
 use borrow.Author.Needs.{needs}
-use Rattle.fields.proofs.Storing.{headed, headed-length, headed-value}
-use Rattle.fields.proofs.writing.put_field.Statement.{statement}
-use Rattle.fields.proofs.writing.put_field.Tie as tie
+use Rattle.writing.proofs.Storing.{headed, headed-length, headed-value}
+use Rattle.writing.proofs.put_field.Statement.{statement}
+use Rattle.writing.proofs.put_field.Tie as tie
 
 abbrev Inv-loop : tie.InvT-loop
 Inv-loop tag value out₀ size i₀ out i = (i ≤ size) × (size ≡ length value) × (3 + size ≤ length out₀) × (out ≡ paste out₀ 3 value i)

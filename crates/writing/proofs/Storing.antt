@@ -10,11 +10,11 @@ use borrow.Rule.Slice.PartMut.{putMid}
 use Rattle.numbers.specs.Words.{bytesOf}
 use Rattle.numbers.specs.Placing.{atFront}
 use Rattle.numbers.proofs.Places.{front-length, front-then}
 use Rattle.fields.specs.Fields.{written}
 use Rattle.numbers.specs.Refusals.{firstOf}
 use Rattle.numbers.proofs.Refusals.{told, passed}
 use Rattle.heads.specs.Heads.{openingTests, openingRefusal}
-use Rattle.fields.specs.Writing.{headRoom, roomRow, writtenHead, headWritingRefusal, headWritingOut}
+use Rattle.writing.specs.Writing.{headRoom, roomRow, writtenHead, headWritingRefusal, headWritingOut}
 
 -- ---- the answer and the lent bytes, in each case
 

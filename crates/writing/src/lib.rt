@@ -3,10 +3,11 @@ ghost use mathlib.Core.Path.{_≡_};
 ghost use Prim.Native.Nat.{ℕ, _+_, _<_, _≤_};
 ghost use lib.ListN.{length};
 ghost use Rattle.numbers.specs.Placing.{atFront};
 ghost use Rattle.fields.specs.Fields.{headerLength, written};
-ghost use Rattle.fields.specs.Writing.{headWritingRefusal, headWritingOut};
-ghost use Rattle.fields.specs.Writing.{valueWritingRefusal, pointWritingRefusal, pointWritingOut};
-use crate::HEADER_LENGTH;
+ghost use Rattle.writing.specs.Writing.{headWritingRefusal, headWritingOut};
+ghost use Rattle.writing.specs.Writing.{valueWritingRefusal, pointWritingRefusal, pointWritingOut};
+use fields::HEADER_LENGTH;
+use numbers::NUMBER_LENGTH;
 
 // The bytes of a head's field, and those with the calendar's field behind it.
 const HEAD_FIELD: usize = 20;
@@ -55,7 +56,7 @@ fn point_refusal(tag: u8, value: &[u8]) -> u32
     if form != refusals::ACCEPTED {
         return form;
     }
-    if !numbers::is_number(&value[0..22]) {
+    if !numbers::is_number(&value[0..NUMBER_LENGTH]) {
         return refusals::POINT_NUMBER;
     }
     points::value_refusal(tag, value)

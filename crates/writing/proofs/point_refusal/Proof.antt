@@ -5,10 +5,10 @@ use native.Mathlib.Omega.{arith}
 use borrow.Author.Tests.{not-true, not-false}
 use Rattle.points.proofs.PointKinds.{right-length, long-enough}
 use lib.ListN.{length}
-use Rattle.fields.proofs.WritingRows.{form-told, number-told, number-passed}
+use Rattle.writing.proofs.WritingRows.{form-told, number-told, number-passed}
 use borrow.Author.Needs.{needs}
-use Rattle.fields.proofs.writing.point_refusal.Statement.{statement}
-use Rattle.fields.proofs.writing.point_refusal.Tie as tie
+use Rattle.writing.proofs.point_refusal.Statement.{statement}
+use Rattle.writing.proofs.point_refusal.Tie as tie
 
 returns : tie.Need-returns
 returns c = let e = c .before .form-refusal .ensures in rw e (sym (form-told _ _ (rw e at (c .if1 .taken))))

@@ -1,10 +1,10 @@
 -- A refusal of the point, too few bytes, or the field.
 use mathlib.Core.Path.{sym, _∙_}
 use native.Mathlib.Omega.{arith}
-use Rattle.fields.proofs.WritingRows.{point-refused, told-small, point-room, point-written}
+use Rattle.writing.proofs.WritingRows.{point-refused, told-small, point-room, point-written}
 use borrow.Author.Needs.{needs}
-use Rattle.fields.proofs.writing.write_point.Statement.{statement}
-use Rattle.fields.proofs.writing.write_point.Tie as tie
+use Rattle.writing.proofs.write_point.Statement.{statement}
+use Rattle.writing.proofs.write_point.Tie as tie
 
 returns : tie.Need-returns
 returns c = let e = c .before .point-refusal .ensures in rw e (point-refused _ _ _ (rw e at (c .if1 .taken)))
