@@ -83,7 +83,13 @@ fn put_capacity_lines(figures: Figures, at: usize, out: &mut [u8]) -> usize
 }
 
 // All of them, from a place of the lent bytes on.
-pub fn put_figures(head: Head, totals: [i64; 6], figures: Figures, at: usize, out: &mut [u8]) -> usize
+pub fn put_figures(
+    head: Head,
+    totals: [i64; 6],
+    figures: Figures,
+    at: usize,
+    out: &mut [u8],
+) -> usize
     requires { ⌜ at + 594 ≤ length (now out) ⌝ }
     ensures { λ r. ⌜ Placed (figureLines head totals figures) at (now (out .entry)) r (now (out .exit)) ⌝ }
 {
