@@ -13,7 +13,7 @@ use Rattle.ledger.specs.declared.Opened.{Opened}
 use Rattle.ledger.specs.declared.Added.{Added}
 use Rattle.fields.specs.Fields.{fieldOf, valueIn, behind}
 use Rattle.book.specs.Reading.{Reading, refused, good, _>>=_, Points, before, readPoints, Book, bookOf, readBook}
-use Rattle.book.specs.Endings.{refusedWith, pointsEnding, bookEnding, closedAfter}
+use Rattle.book.specs.Endings.{refusedWith, pointsEnding, bookEnding}
 use Rattle.book.specs.Settling.{closingOf, resultLength, resultBytes, settlingRefusal, settlingResult}
 use Rattle.fields.specs.declared.Due.{Due}
 use Rattle.fields.specs.declared.Due.the-variants as due
@@ -86,14 +86,14 @@ module _ (book : List ℕ) where
           rw (e, f, eq-eqb _ _ w)
           (book-of-ending (valueIn size book) (valueIn size₂ (behind size book)) (readPoints (opened .state .head .count) (opened .state) (behind size₂ (behind size book))))
 
--- ---- the closing after the reading is that of the whole book
+-- ---- a closing that is accepted is that of a book that is read in full
 
-pub ending-closes : (book : List ℕ) → closedAfter (bookEnding (readBook book)) ≡ closingOf (readBook book)
-ending-closes book = go (readBook book) (book-told book)
+pub closed-reads : (book : List ℕ) → closingOf book .refusal ≡ 0 → (r : Book) × (readBook book ≡ good r)
+closed-reads book z = go (readBook book) refl (book-told book)
   where
-    go : (r : Reading Book) → Told r → closedAfter (bookEnding r) ≡ closingOf r
-    go (refused n) t = rw (ne-eqb _ _ t)
-    go (good r) t = refl
+    go : (reading : Reading Book) → readBook book ≡ reading → Told reading → (r : Book) × (readBook book ≡ good r)
+    go (refused n) e t = absurd (t (rw (e, ne-eqb n 0 t) at z))
+    go (good r) e t = (r, e)
 
 -- ---- over a book and a place in it, as the code cuts it
 
@@ -181,10 +181,10 @@ module _ (book result : List ℕ) where
   no-room n = let k = ne-eqb _ _ n in (simp k, simp k)
 
   module _ (room : length result ≡ resultLength) where
-    pub not-settled : (closingOf (readBook book) .refusal ≡ 0 → ⊥) → Answer (closingOf (readBook book) .refusal) result
+    pub not-settled : (closingOf book .refusal ≡ 0 → ⊥) → Answer (closingOf book .refusal) result
     unfolding settlingRefusal settlingResult
     not-settled n = rw room (refl, simp (ne-eqb _ _ n))
 
-    pub all-settled : closingOf (readBook book) .refusal ≡ 0 → Answer 0 (resultBytes (closingOf (readBook book) .figures))
+    pub all-settled : closingOf book .refusal ≡ 0 → Answer 0 (resultBytes (closingOf book .figures))
     unfolding settlingRefusal settlingResult
     all-settled e = rw (room, e) (refl, refl)

@@ -8,16 +8,14 @@ use lib.ListN.{length}
 use Rattle.numbers.specs.Lists.{gather}
 use Rattle.numbers.specs.Words.{bytesOf}
 use Rattle.integers.specs.Integers.{twosComplement}
-use Rattle.figures.specs.Figures.{noFigures}
-use Rattle.ledger.specs.Operations.{closeOf}
 use Rattle.figures.specs.declared.Figures.{Figures}
 use Rattle.ledger.specs.declared.Closed.{Closed}
-use Rattle.book.specs.Reading.{Reading, refused, good, Book, readBook}
+use Rattle.book.specs.Reading.{readBook}
+use Rattle.book.specs.Endings.{bookEnding, closedAfter}
 
--- the closing of a book that is read in full
-abbrev pub closingOf : Reading Book → Closed
-closingOf (refused refusal) = record { refusal = refusal; figures = noFigures }
-closingOf (good book) = closeOf (book .state)
+-- the closing of a book, after its reading
+abbrev pub closingOf : List ℕ → Closed
+closingOf book = closedAfter (bookEnding (readBook book))
 
 -- 'total, settled, shortfall, expected, kept, surplus, points, bid (1 or 0)'
 abbrev pub wordsOf : Figures → List ℤ
@@ -42,8 +40,8 @@ resultBytes f = gather (λ word. bytesOf 8 (twosComplement word)) (wordsOf f)
 
 -- 40: not 64 bytes; then field by field
 unfoldable pub settlingRefusal : List ℕ → ℕ → ℕ
-settlingRefusal book room = cond (eqb room resultLength) (closingOf (readBook book) .refusal) 40
+settlingRefusal book room = cond (eqb room resultLength) (closingOf book .refusal) 40
 
 unfoldable pub settlingResult : List ℕ → List ℕ → List ℕ
 settlingResult book result =
-    cond (eqb (settlingRefusal book (length result)) 0) (resultBytes (closingOf (readBook book) .figures)) result
+    cond (eqb (settlingRefusal book (length result)) 0) (resultBytes (closingOf book .figures)) result

@@ -100,7 +100,7 @@ pub fn closing() -> bool {
 }
 
 fn answer_writing_head(head: &[u8], calendar: &[u8], lent: &mut [u8]) -> bool {
-    let refusal = fields::writing::write_head(head, calendar, lent);
+    let refusal = writing::write_head(head, calendar, lent);
     text::line(text::number(b"writing head ", refusal as u64) & text::lent(lent))
 }
 
@@ -131,7 +131,7 @@ pub fn writing_head() -> bool {
 }
 
 fn answer_writing_point(tag: u8, value: &[u8], lent: &mut [u8]) -> bool {
-    let refusal = fields::writing::write_point(tag, value, lent);
+    let refusal = writing::write_point(tag, value, lent);
     text::line(text::number(b"writing point ", refusal as u64) & text::lent(lent))
 }
 

@@ -98,7 +98,7 @@ module _ (due : Due) (p : Progress) (n : ℕ) (left : List ℕ) where
 -- ---- the points
 
 abbrev atPoints : State → Progress → Progress
-atPoints state p = record { wait = pointOrEnd state; head = p .head; state = state; refusal = 0 }
+atPoints state p = record { wait = pointOrEnd (state .points) (state .head .count); head = p .head; state = state; refusal = 0 }
 
 module _ (state : State) (p : Progress) where
   point-due : state .points < state .head .count → atPoints state p ≡ waiting (Header Point) (atPoints state p)

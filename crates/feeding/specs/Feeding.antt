@@ -7,6 +7,7 @@ use Prim.Native.Nat.{ℕ, zero, suc, _+_, _*_, _<_, _≤_}
 use lib.Dec.{ltb, eqb}
 use lib.ListN.{length, take, drop, replicate}
 use Rattle.heads.specs.Limits.{mostPoints}
+use Rattle.heads.specs.Heads.{headLength}
 use Rattle.ledger.specs.States.{noState}
 use Rattle.ledger.specs.Operations.{openOf, addOf}
 use Rattle.ledger.specs.declared.State.{State}
@@ -34,7 +35,7 @@ isOver End = false
 isOver Nothing = true
 
 abbrev pub startOf : Progress
-startOf = record { wait = Header Head; head = replicate 17 0; state = noState; refusal = 0 }
+startOf = record { wait = Header Head; head = replicate headLength 0; state = noState; refusal = 0 }
 
 -- ---- a refusal ends the reading, and so does the end of the book
 
@@ -56,14 +57,14 @@ headerFed due p bytes =
 -- ---- a value
 
 -- points are due until the count is reached
-abbrev pub pointOrEnd : State → Wait
-pointOrEnd state = cond (ltb (state .points) (state .head .count)) (Header Point) End
+abbrev pub pointOrEnd : ℕ → ℕ → Wait
+pointOrEnd points count = cond (ltb points count) (Header Point) End
 
 -- what opening or adding answers
 abbrev pub going : ℕ → State → Progress → Progress
 going refusal state p =
     cond (eqb refusal 0)
-    (record { wait = pointOrEnd state; head = p .head; state = state; refusal = 0 })
+    (record { wait = pointOrEnd (state .points) (state .head .count); head = p .head; state = state; refusal = 0 })
     (refusedAt refusal p)
 
 -- a whole value

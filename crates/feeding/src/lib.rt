@@ -2,10 +2,13 @@
 ghost use mathlib.Core.Path.{_≡_};
 ghost use Prim.Native.Nat.{_≤_};
 ghost use lib.ListN.{length};
+ghost use Rattle.heads.specs.Heads.{headLength};
+ghost use Rattle.points.specs.Points.{consumerLength};
 ghost use Rattle.feeding.specs.Feeding.{dueOf, isOver, startOf, mostFeedings, refusedAt};
 ghost use Rattle.feeding.specs.Feeding.{headerFed, pointOrEnd, going, got, valueFed, endFed, feedOf};
 ghost use Rattle.fields.specs.declared.Due.the-variants.{Head, Calendar, Point};
 use fields::Due;
+use heads::HEAD_LENGTH;
 use ledger::State;
 
 // What is waited for: a header, the value behind one, the end of the book, or nothing more.
@@ -19,16 +22,15 @@ pub enum Wait {
 // The head is kept until the calendar comes. Once nothing more is waited for, the refusal, or 0 and the state after the last point.
 pub struct Progress {
     pub wait: Wait,
-    pub head: [u8; 17],
+    pub head: [u8; HEAD_LENGTH],
     pub state: State,
     pub refusal: u32,
 }
 
 // How many bytes are due.
-pub fn due(progress: Progress) -> usize
-    ensures { λ r. ⌜ (r ≡ dueOf (progress .wait)) × (r ≤ 5975) ⌝ }
+pub fn due(wait: Wait) -> usize
+    ensures { λ r. ⌜ (r ≡ dueOf wait) × (r ≤ consumerLength) ⌝ }
 {
-    let wait = progress.wait;
     match wait {
         Wait::Header(_) => 3,
         Wait::Value(kind, tag) => fields::cutting::length_due(kind, tag),
@@ -38,10 +40,9 @@ pub fn due(progress: Progress) -> usize
 }
 
 // Whether the reading has ended.
-pub fn is_over(progress: Progress) -> bool
-    ensures { λ r. ⌜ r ≡ isOver (progress .wait) ⌝ }
+pub fn is_over(wait: Wait) -> bool
+    ensures { λ r. ⌜ r ≡ isOver wait ⌝ }
 {
-    let wait = progress.wait;
     match wait {
         Wait::Header(_) => false,
         Wait::Value(_, _) => false,
@@ -64,7 +65,7 @@ pub fn start() -> Progress
     let state = ledger::states::no_state();
     Progress {
         wait: Wait::Header(Due::Head),
-        head: [0; 17],
+        head: [0; HEAD_LENGTH],
         state,
         refusal: refusals::ACCEPTED,
     }
@@ -85,11 +86,10 @@ fn refused_at(refusal: u32, progress: Progress) -> Progress
 }
 
 // Points are due until the count is reached.
-fn point_or_end(state: State) -> Wait
-    ensures { λ r. ⌜ r ≡ pointOrEnd state ⌝ }
+fn point_or_end(points: u32, count: u32) -> Wait
+    ensures { λ r. ⌜ r ≡ pointOrEnd points count ⌝ }
 {
-    let head = state.head;
-    if state.points < head.count {
+    if points < count {
         Wait::Header(Due::Point)
     } else {
         Wait::End
@@ -103,7 +103,8 @@ fn go_on(refusal: u32, state: State, progress: Progress) -> Progress
     if refusal != refusals::ACCEPTED {
         return refused_at(refusal, progress);
     }
-    let wait = point_or_end(state);
+    let opened = state.head;
+    let wait = point_or_end(state.points, opened.count);
     let head = progress.head;
     Progress {
         wait,
@@ -131,13 +132,13 @@ fn feed_header(kind: Due, progress: Progress, bytes: &[u8]) -> Progress
 }
 
 // The bytes of a head, kept until the calendar comes.
-fn kept_head(value: &[u8]) -> [u8; 17]
-    requires { ⌜ length (now value) ≡ 17 ⌝ }
+fn kept_head(value: &[u8]) -> [u8; HEAD_LENGTH]
+    requires { ⌜ length (now value) ≡ headLength ⌝ }
     ensures { λ r. ⌜ r ≡ now (value .entry) ⌝ }
 {
-    let mut head = [0u8; 17];
+    let mut head = [0u8; HEAD_LENGTH];
     let mut i: usize = 0;
-    while i < 17 {
+    while i < HEAD_LENGTH {
         head[i] = value[i];
         i += 1;
     }
@@ -145,7 +146,7 @@ fn kept_head(value: &[u8]) -> [u8; 17]
 }
 
 fn got_head(progress: Progress, value: &[u8]) -> Progress
-    requires { ⌜ length (now value) ≡ 17 ⌝ }
+    requires { ⌜ length (now value) ≡ headLength ⌝ }
     ensures { λ r. ⌜ r ≡ got Head 1 progress (now (value .entry)) ⌝ }
 {
     let head = kept_head(value);
@@ -186,10 +187,11 @@ fn feed_value(kind: Due, tag: u8, progress: Progress, bytes: &[u8]) -> Progress
     if bytes.len() < size {
         return refused_at(refusals::BOOK_CUT, progress);
     }
+    let value = &bytes[0..size];
     match kind {
-        Due::Head => got_head(progress, &bytes[0..size]),
-        Due::Calendar => got_calendar(progress, &bytes[0..size]),
-        Due::Point => got_point(tag, progress, &bytes[0..size]),
+        Due::Head => got_head(progress, value),
+        Due::Calendar => got_calendar(progress, value),
+        Due::Point => got_point(tag, progress, value),
     }
 }
 

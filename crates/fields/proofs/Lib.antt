@@ -1,4 +1,2 @@
 pub mod Headers
 pub mod Answers
-pub mod Storing
-pub mod WritingRows

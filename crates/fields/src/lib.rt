@@ -1,6 +1,5 @@
-// Fields: cutting one off the front of a book, and writing one.
+// Fields of a book, and cutting one off the front of it.
 pub mod cutting;
-pub mod writing;
 
 // The bytes of a field's header: a tag, and a length of two bytes.
 pub const HEADER_LENGTH: usize = 3;

@@ -6,6 +6,7 @@ ghost use Rattle.numbers.specs.Refusals.{firstOf};
 ghost use Rattle.heads.specs.Heads.{headLength, calendarLength, countAt, headWith, headOf};
 ghost use Rattle.heads.specs.Heads.{dayRows, slotRow, lossRow, contractRow, counts, countRow};
 ghost use Rattle.heads.specs.Heads.{contentRefusal, openingRefusal};
+use numbers::DAYS_BACK;
 
 // The limits that opening tests (specs/Limits).
 const EARLIEST_SLOT: u8 = 18;
@@ -94,11 +95,11 @@ pub fn head_of(bytes: &[u8]) -> Head
 }
 
 // The thirty marks of a calendar.
-pub fn marks_of(bytes: &[u8]) -> [u8; 30]
+pub fn marks_of(bytes: &[u8]) -> [u8; DAYS_BACK]
     requires { ⌜ length (now bytes) ≡ calendarLength ⌝ }
     ensures { λ r. ⌜ r ≡ now (bytes .entry) ⌝ }
 {
-    let mut marks = [0u8; 30];
+    let mut marks = [0u8; DAYS_BACK];
     let mut i: usize = 0;
     while i < CALENDAR_LENGTH {
         marks[i] = bytes[i];
@@ -170,7 +171,7 @@ pub fn count_refusal(count: u32) -> u32
 }
 
 // What opening refuses in the values of a head and a calendar, 2 to 8. It is also asked of a state's contents.
-pub fn content_refusal(head: Head, marks: [u8; 30]) -> u32
+pub fn content_refusal(head: Head, marks: [u8; DAYS_BACK]) -> u32
     ensures { λ r. ⌜ r ≡ contentRefusal head marks ⌝ }
 {
     let day = day_refusal(head);

@@ -1,13 +1,11 @@
--- What settle_book prints (document 01, example M): 'date and s, points, slot totals in order, then the closing figures'; 'a refused book
--- prints one line'.
+-- What settle_book prints (document 01, example M): the lines of the figures of a settled book (figure_lines); 'a refused book prints one
+-- line'.
 use mathlib.Core.Path.{_≡_}
-use mathlib.Core.Bool.{Bool, cond}
-use mathlib.Core.List.{List, [], _∷_, _++_}
-use Prim.Native.Nat.{ℕ, suc, _≤_}
+use mathlib.Core.Bool.{cond}
+use mathlib.Core.List.{List}
+use Prim.Native.Nat.{ℕ, _≤_}
 use lib.Dec.{eqb}
-use lib.IntN.{ℤ}
 use lib.ListN.{length}
-use Rattle.heads.specs.declared.Head.{Head}
 use Rattle.ledger.specs.States.{slotTotals}
 use Rattle.ledger.specs.declared.State.{State}
 use Rattle.ledger.specs.declared.Closed.{Closed}
@@ -17,46 +15,13 @@ use Rattle.book.specs.Endings.{bookEnding, closedAfter}
 use Rattle.book.specs.Settling.{resultLength, resultBytes, settlingRefusal, settlingResult}
 use Rattle.book.specs.declared.Ending.{Ending}
 use Rattle.feeding.specs.Feeding.{startOf, fed, endingFed, mostFeedings}
-use Rattle.lines.specs.Ascii.{ascii}
-use Rattle.lines.specs.Numerals.{decimal, twoDigits, signed}
+use Rattle.lines.specs.Numerals.{decimal}
 use Rattle.lines.specs.Line.{line}
+use Rattle.figure_lines.specs.FigureLines.{figureLines}
 
--- a month or a day, behind a dash
-abbrev pub dashed : ℕ → List ℕ
-dashed m = ascii "-" ++ twoDigits m
-
-abbrev pub date : Head → List ℕ
-date head = decimal (head .year) ++ (dashed (head .month) ++ dashed (head .day))
-
-abbrev pub dateLine : Head → List ℕ
-dateLine head = ascii "date " ++ (date head ++ line " slot " (decimal (head .slot)))
-
--- slot i and those after it
-unfoldable pub slotLines : ℕ → List ℤ → List ℕ
-slotLines i [] = []
-slotLines i (total ∷ totals) = ascii "slot " ++ (decimal i ++ (line " " (signed total) ++ slotLines (suc i) totals))
-
--- Wh for the total, kW for the others
-abbrev pub settledLines : Figures → List ℕ
-settledLines figures =
-    line "total " (signed (figures .total))
-    ++ (line "settled " (signed (figures .settled))
-    ++ line "shortfall " (decimal (figures .shortfall)))
-
-abbrev pub bidLine : Bool → List ℕ
-bidLine bid = line "bid " (cond bid (ascii "yes") (ascii "no"))
-
--- the capacity left after the test, in kW
-abbrev pub capacityLines : Figures → List ℕ
-capacityLines figures =
-    line "expected " (decimal (figures .expected))
-    ++ (line "kept " (decimal (figures .kept))
-    ++ (line "surplus " (decimal (figures .surplus))
-    ++ bidLine (figures .bid)))
-
+-- with the date and the slot totals of a state
 abbrev pub settledText : State → Figures → List ℕ
-settledText state figures =
-    dateLine (state .head) ++ (line "points " (decimal (figures .points)) ++ (slotLines 1 (slotTotals state) ++ (settledLines figures ++ capacityLines figures)))
+settledText state figures = figureLines (state .head) (slotTotals state) figures
 
 abbrev pub refusedText : ℕ → List ℕ
 refusedText refusal = line "refused " (decimal refusal)

@@ -1,106 +1,14 @@
 // The text of a settled or refused book, as settle_book prints it.
 ghost use mathlib.Core.Path.{_≡_};
-ghost use Prim.Native.Nat.{_+_, _≤_};
+ghost use Prim.Native.Nat.{_≤_};
 ghost use lib.ListN.{length};
 ghost use Rattle.io.specs.Counts.{Counts};
-ghost use Rattle.numbers.specs.Placing.{atFront, Placed};
-ghost use Rattle.printing.specs.Printed.{dashed, date, dateLine, slotLines, settledLines, bidLine, capacityLines};
-ghost use Rattle.printing.specs.Printed.{settledText, textOf, textRoom};
+ghost use Rattle.numbers.specs.Placing.{atFront};
+ghost use Rattle.printing.specs.Printed.{textOf, textRoom};
 use book::Ending;
-use figures::Figures;
-use heads::Head;
-use ledger::State;
 
 // The bytes that have room for any text.
 pub const TEXT_ROOM: usize = 640;
-
-fn put_dashed(number: u8, at: usize, out: &mut [u8]) -> usize
-    requires { ⌜ at + 22 ≤ length (now out) ⌝ }
-    ensures { λ r. ⌜ Placed (dashed number) at (now (out .entry)) r (now (out .exit)) ⌝ }
-    ensures { λ r. ⌜ r ≤ at + 22 ⌝ }
-{
-    let dash = lines::put(b"-", at, out);
-    lines::put_two_digits(number, dash, out)
-}
-
-fn put_date(head: Head, at: usize, out: &mut [u8]) -> usize
-    requires { ⌜ at + 64 ≤ length (now out) ⌝ }
-    ensures { λ r. ⌜ Placed (date head) at (now (out .entry)) r (now (out .exit)) ⌝ }
-    ensures { λ r. ⌜ r ≤ at + 64 ⌝ }
-{
-    let year = lines::put_number(head.year as u64, at, out);
-    let month = put_dashed(head.month, year, out);
-    put_dashed(head.day, month, out)
-}
-
-fn put_date_line(head: Head, at: usize, out: &mut [u8]) -> usize
-    requires { ⌜ at + 96 ≤ length (now out) ⌝ }
-    ensures { λ r. ⌜ Placed (dateLine head) at (now (out .entry)) r (now (out .exit)) ⌝ }
-    ensures { λ r. ⌜ r ≤ at + 96 ⌝ }
-{
-    let named = lines::put(b"date ", at, out);
-    let dated = put_date(head, named, out);
-    lines::put_line(b" slot ", head.slot as u64, dated, out)
-}
-
-fn put_slots(totals: [i64; 6], at: usize, out: &mut [u8]) -> usize
-    requires { ⌜ at + 288 ≤ length (now out) ⌝ }
-    ensures { λ r. ⌜ Placed (slotLines 1 totals) at (now (out .entry)) r (now (out .exit)) ⌝ }
-    ensures { λ r. ⌜ r ≤ at + 288 ⌝ }
-{
-    let mut end = at;
-    let mut i: usize = 0;
-    while i < 6 {
-        let named = lines::put(b"slot ", end, out);
-        let numbered = lines::put_number((i + 1) as u64, named, out);
-        end = lines::put_signed_line(b" ", totals[i], numbered, out);
-        i += 1;
-    }
-    end
-}
-
-fn put_settled_lines(figures: Figures, at: usize, out: &mut [u8]) -> usize
-    requires { ⌜ at + 89 ≤ length (now out) ⌝ }
-    ensures { λ r. ⌜ Placed (settledLines figures) at (now (out .entry)) r (now (out .exit)) ⌝ }
-    ensures { λ r. ⌜ r ≤ at + 89 ⌝ }
-{
-    let total = lines::put_signed_line(b"total ", figures.total, at, out);
-    let settled = lines::put_signed_line(b"settled ", figures.settled, total, out);
-    lines::put_line(b"shortfall ", figures.shortfall, settled, out)
-}
-
-fn put_bid(bid: bool, at: usize, out: &mut [u8]) -> usize
-    requires { ⌜ at + 8 ≤ length (now out) ⌝ }
-    ensures { λ r. ⌜ Placed (bidLine bid) at (now (out .entry)) r (now (out .exit)) ⌝ }
-{
-    if bid {
-        return lines::put(b"bid yes\n", at, out);
-    }
-    lines::put(b"bid no\n", at, out)
-}
-
-fn put_capacity_lines(figures: Figures, at: usize, out: &mut [u8]) -> usize
-    requires { ⌜ at + 93 ≤ length (now out) ⌝ }
-    ensures { λ r. ⌜ Placed (capacityLines figures) at (now (out .entry)) r (now (out .exit)) ⌝ }
-{
-    let expected = lines::put_line(b"expected ", figures.expected, at, out);
-    let kept = lines::put_line(b"kept ", figures.kept, expected, out);
-    let surplus = lines::put_line(b"surplus ", figures.surplus, kept, out);
-    put_bid(figures.bid, surplus, out)
-}
-
-fn put_settled(state: State, figures: Figures, at: usize, out: &mut [u8]) -> usize
-    requires { ⌜ at + 594 ≤ length (now out) ⌝ }
-    ensures { λ r. ⌜ Placed (settledText state figures) at (now (out .entry)) r (now (out .exit)) ⌝ }
-{
-    let head = state.head;
-    let totals = ledger::states::slot_totals(state);
-    let dated = put_date_line(head, at, out);
-    let counted = lines::put_line(b"points ", figures.points as u64, dated, out);
-    let slots = put_slots(totals, counted, out);
-    let settled = put_settled_lines(figures, slots, out);
-    put_capacity_lines(figures, settled, out)
-}
 
 // Puts the text at the front of the lent bytes, which have room for any, and answers how long it is.
 pub fn write_text(ending: Ending, out: &mut [u8; TEXT_ROOM]) -> usize
@@ -114,6 +22,8 @@ pub fn write_text(ending: Ending, out: &mut [u8; TEXT_ROOM]) -> usize
         return lines::put_line(b"refused ", refusal as u64, 0, out);
     }
     let state = ending.state;
+    let head = state.head;
+    let totals = ledger::states::slot_totals(state);
     let figures = closed.figures;
-    put_settled(state, figures, 0, out)
+    figure_lines::put_figures(head, totals, figures, 0, out)
 }

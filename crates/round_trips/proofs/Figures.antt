@@ -5,9 +5,11 @@ use Prim.Native.Nat.{ℕ}
 use Rattle.ledger.specs.Operations.{closeOf}
 use Rattle.ledger.specs.declared.State.{State}
 use Rattle.calls.specs.Calls.{accepted, closed, replyOf, replies, program}
-use Rattle.book.specs.Reading.{Reading, refused, good, Points, Book, readBook}
-use Rattle.book.specs.Settling.{closingOf, settlingRefusal}
-use Rattle.book.proofs.Readings.{Points-read, none, more, book-read, Told, book-told}
+use Rattle.book.specs.Reading.{Points}
+use Rattle.book.specs.Settling.{settlingRefusal}
+use Rattle.book.proofs.Readings.{Points-read, none, more, book-read}
+use Rattle.book.proofs.Endings.{closed-reads}
+use Rattle.book.proofs.Closings.{closes}
 use Rattle.round_trips.specs.Demand2.{callsOf, GivesFigures}
 
 points-replies : {n : ℕ} {state : State} {left : List ℕ} {x : Points} → Points-read n state left x
@@ -18,15 +20,12 @@ points-replies (more {part} cut e read) = rw e (ap (λ rs. accepted ∷ rs) (poi
 
 pub gives-figures : GivesFigures
 unfolding settlingRefusal program
-gives-figures book zero = go (readBook book) refl (book-told book) zero
-  where
-    go : (reading : Reading Book) → readBook book ≡ reading → Told reading → closingOf reading .refusal ≡ 0
-        → (r : Book)
-        × (readBook book ≡ good r)
-        × (program (r .contents .head) (r .contents .calendar) (callsOf (r .contents .points))
-        ≡ accepted ∷ map (λ p. accepted) (r .contents .points) ++ closed (closeOf (r .state) .figures) ∷ [])
-    go (refused n) e t z = absurd (t z)
-    go (good r) e t z =
-        let k = book-read book r e in
-        let q = points-replies (k .pointsRead) in
-        (r, e, rw (k .is) (rw (k .opens, q) (ap (λ n. accepted ∷ map (λ p. accepted) (k .points .points) ++ replyOf n (closed (closeOf (k .points .state) .figures)) ∷ []) (rw (k .is) at z))))
+gives-figures book zero =
+    let read = closed-reads book zero in
+    let k = book-read book (read .0) (read .1) in
+    let shut = closes book (read .0) (read .1) in (
+      read .0,
+      read .1,
+      rw (k .is) (rw (k .opens, points-replies (k .pointsRead))
+          (ap (λ n. accepted ∷ map (λ p. accepted) (k .points .points) ++ replyOf n (closed (closeOf (k .points .state) .figures)) ∷ []) (rw (k .is) at shut))),
+    )

@@ -28,8 +28,8 @@ use Rattle.heads.proofs.Opening.{opening-lengths}
 use Rattle.ledger.proofs.Sound.{open-refusal, open-good, add-refusal, add-good, Sound, opened-sound, adding-sound, taken-sound}
 use Rattle.fields.specs.Fields.{written}
 use Rattle.book.specs.Reading.{good, Points, before, readPoints, Book, bookOf, readBook}
-use Rattle.book.specs.Settling.{settlingRefusal}
-use Rattle.fields.specs.Writing.{roomRow, headWritingRefusal, pointWritingTests, pointWritingRefusal}
+use Rattle.book.specs.Settling.{resultLength, settlingRefusal}
+use Rattle.writing.specs.Writing.{roomRow, headWritingRefusal, pointWritingTests, pointWritingRefusal}
 use Rattle.round_trips.specs.Demand2.{risesAfter, rises, headRoom, roomFor, Each, ReadsBack, ReadInFull, WrittenGivesZero, ReadsWritable, WritesSame, writtenBook}
 use Rattle.fields.specs.declared.Due.the-variants as due
 use Rattle.round_trips.proofs.Cutting.{reads-field, was-written}
@@ -222,7 +222,7 @@ writes-same book bytes r e =
 
 -- ---- the number of Whole book
 
-gives-zero : (book : List ℕ) (r : Book) → readBook book ≡ good r → settlingRefusal book 64 ≡ 0
+gives-zero : (book : List ℕ) (r : Book) → readBook book ≡ good r → settlingRefusal book resultLength ≡ 0
 unfolding settlingRefusal
 gives-zero book r e = rw e (closes book r e)
 

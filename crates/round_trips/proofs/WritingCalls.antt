@@ -13,8 +13,8 @@ use Rattle.numbers.proofs.Refusals.{clear-zero}
 use Rattle.heads.proofs.Opening.{opening-lengths}
 use Rattle.points.specs.Points.{Point}
 use Rattle.fields.specs.Fields.{written}
-use Rattle.fields.specs.Writing.{writtenHead, pointWritingTests, pointWritingRefusal, pointWritingOut}
-use Rattle.fields.proofs.Storing.{head-written, written-length}
+use Rattle.writing.specs.Writing.{writtenHead, pointWritingTests, pointWritingRefusal, pointWritingOut}
+use Rattle.writing.proofs.Storing.{head-written, written-length}
 use Rattle.round_trips.specs.Demand2.{headRoom, roomFor, writtenBook, Each}
 use Rattle.round_trips.specs.WritingCalls.{pointsOut, pointsAnswers, bookOut, bookAnswers, WritingCalls}
 use Rattle.round_trips.proofs.RoundTrips.{Takes, writtenPoints, writing-untold, head-opens}

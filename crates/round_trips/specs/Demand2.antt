@@ -15,9 +15,9 @@ use Rattle.results.specs.SlotResults.{lacksDays}
 use Rattle.ledger.specs.Operations.{closeOf}
 use Rattle.book.specs.Reading.{good, Contents, Book, readBook}
 use Rattle.fields.specs.Fields.{written}
-pub use Rattle.fields.specs.Writing.{headRoom}
-use Rattle.fields.specs.Writing.{writtenHead, headWritingRefusal, pointWritingRefusal}
-use Rattle.book.specs.Settling.{settlingRefusal}
+pub use Rattle.writing.specs.Writing.{headRoom}
+use Rattle.writing.specs.Writing.{writtenHead, headWritingRefusal, pointWritingRefusal}
+use Rattle.book.specs.Settling.{resultLength, settlingRefusal}
 use Rattle.calls.specs.Calls.{Call, adding, closing, accepted, closed, program}
 
 -- 'rising in number', after a number and from the first point on
@@ -59,15 +59,15 @@ ReadsBack = (b : Contents) → Writable b → (r : Book) × (readBook (writtenBo
 
 -- A book is read in full exactly when Whole book answers 0.
 pub record InFull (book : List ℕ) : Type 0 where
-  pub gives : (r : Book) → readBook book ≡ good r → settlingRefusal book 64 ≡ 0
-  pub back : settlingRefusal book 64 ≡ 0 → (r : Book) × (readBook book ≡ good r)
+  pub gives : (r : Book) → readBook book ≡ good r → settlingRefusal book resultLength ≡ 0
+  pub back : settlingRefusal book resultLength ≡ 0 → (r : Book) × (readBook book ≡ good r)
 
 abbrev pub ReadInFull : Type 0
 ReadInFull = (book : List ℕ) → InFull book
 
 -- Such a book not only reads back: Whole book answers 0.
 abbrev pub WrittenGivesZero : Type 0
-WrittenGivesZero = (b : Contents) → Writable b → settlingRefusal (writtenBook b) 64 ≡ 0
+WrittenGivesZero = (b : Contents) → Writable b → settlingRefusal (writtenBook b) resultLength ≡ 0
 
 -- What a book that is read in full reads back to is what the writing calls take, whatever its bytes.
 abbrev pub ReadsWritable : Type 0
@@ -80,7 +80,7 @@ WritesSame = (book : List ℕ) → Bytes book → (r : Book) → readBook book �
 -- A book that gives 0 is one that is read in full, and its figures are those of the calls on the values handed on.
 abbrev pub GivesFigures : Type 0
 GivesFigures = (book : List ℕ)
-    → settlingRefusal book 64 ≡ 0
+    → settlingRefusal book resultLength ≡ 0
     → (r : Book)
     × (readBook book ≡ good r)
     × (program (r .contents .head) (r .contents .calendar) (callsOf (r .contents .points))

@@ -5,7 +5,7 @@ use Prim.Native.Nat.{ℕ, _≤_}
 use lib.ListN.{length, take, drop}
 use Rattle.numbers.specs.Placing.{atFront}
 use Rattle.points.specs.Points.{Point}
-use Rattle.fields.specs.Writing.{headWritingRefusal, headWritingOut, pointWritingRefusal, pointWritingOut}
+use Rattle.writing.specs.Writing.{headWritingRefusal, headWritingOut, pointWritingRefusal, pointWritingOut}
 use Rattle.book.specs.Reading.{Contents}
 use Rattle.round_trips.specs.Demand2.{headRoom, roomFor, writtenBook, Writable}
 

@@ -56,7 +56,8 @@ fn main() {
     let mut progress = feeding::start();
     let mut turns = feeding::most_feedings();
     while 0 < turns {
-        let due = feeding::due(progress);
+        let wait = progress.wait;
+        let due = feeding::due(wait);
         let got = fill_front(&mut buffer, due);
         if got.failed {
             io::write_all(
@@ -67,7 +68,8 @@ fn main() {
         }
         let count = got.count;
         progress = feeding::feed(progress, &buffer[0..count]);
-        if feeding::is_over(progress) {
+        let next = progress.wait;
+        if feeding::is_over(next) {
             report(progress);
             return;
         }

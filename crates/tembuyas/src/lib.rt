@@ -1,7 +1,7 @@
 // The C interface: numbers and byte slices. include/tembuyas.h declares it.
 ghost use mathlib.Core.Path.{_≡_};
 ghost use lib.ListN.{length};
-ghost use Rattle.fields.specs.Writing.{headWritingRefusal, headWritingOut, pointWritingRefusal, pointWritingOut};
+ghost use Rattle.writing.specs.Writing.{headWritingRefusal, headWritingOut, pointWritingRefusal, pointWritingOut};
 ghost use Rattle.book.specs.Settling.{settlingRefusal, settlingResult};
 
 // Settles a whole book into 64 result bytes.
@@ -19,7 +19,7 @@ pub extern "C" fn tembuyas_write_head(head: &[u8], calendar: &[u8], out: &mut [u
     ensures { λ r. ⌜ r ≡ headWritingRefusal (now (head .entry)) (now (calendar .entry)) (length (now (out .entry))) ⌝ }
     ensures { λ _. ⌜ now (out .exit) ≡ headWritingOut (now (head .entry)) (now (calendar .entry)) (now (out .entry)) ⌝ }
 {
-    fields::writing::write_head(head, calendar, out)
+    writing::write_head(head, calendar, out)
 }
 
 // Writes a point's field.
@@ -28,5 +28,5 @@ pub extern "C" fn tembuyas_write_point(tag: u8, value: &[u8], out: &mut [u8]) ->
     ensures { λ r. ⌜ r ≡ pointWritingRefusal tag (now (value .entry)) (length (now (out .entry))) ⌝ }
     ensures { λ _. ⌜ now (out .exit) ≡ pointWritingOut tag (now (value .entry)) (now (out .entry)) ⌝ }
 {
-    fields::writing::write_point(tag, value, out)
+    writing::write_point(tag, value, out)
 }

@@ -36,24 +36,24 @@ got-head-requires : tie.Need-got-head-requires
 got-head-requires c κs =
     let d = c .before .before .before .before in
     let bytes = start d .args .bytes .now in
-    let known : size d ≡ 17 = d .length-due .ensures .0 ∙ ap (λ (kind : Due). lengthDue kind (start d .args .tag)) (c .before .enum-told .given .1) in
+    let known : size d ≡ 17 = d .length-due .ensures .0 ∙ ap (λ (kind : Due). lengthDue kind (start d .args .tag)) (c .enum-told .given .1) in
     let room : size d ≤ length bytes = c .before .before .before .if1 .left in
     omega (arith, length-take (size d - 0) bytes)
 
 returns-2 : tie.Need-returns-2
 returns-2 c =
     let r = c .before .before .before .before in
-    c .got-head .ensures ∙ as-fed (r .before) _ (c .before .before .enum-told .given .1) (r .if1 .left)
+    c .got-head .ensures ∙ as-fed (r .before) _ (c .before .enum-told .given .1) (r .if1 .left)
 
 returns-3 : tie.Need-returns-3
 returns-3 c =
     let r = c .before .before .before .before in
-    c .got-calendar .ensures ∙ as-fed (r .before) _ (c .before .before .enum-told2 .given .1) (r .if1 .left)
+    c .got-calendar .ensures ∙ as-fed (r .before) _ (c .before .enum-told2 .given .1) (r .if1 .left)
 
 returns-4 : tie.Need-returns-4
 returns-4 c =
     let r = c .before .before .before .before in
-    c .got-point .ensures ∙ as-fed (r .before) _ (c .before .before .enum-told3 .given .1) (r .if1 .left)
+    c .got-point .ensures ∙ as-fed (r .before) _ (c .before .enum-told3 .given .1) (r .if1 .left)
 
 pub feed-value-spec : {M : Type 1} → statement M
 feed-value-spec =
@@ -68,13 +68,7 @@ feed-value-spec =
     (λ c. search needs)
     got-head-requires
     (λ c. search needs)
-    (λ c. search needs)
-    (λ c. search needs)
-    (λ c. search needs)
     (λ c κs. search needs)
-    (λ c. search needs)
-    (λ c. search needs)
-    (λ c. search needs)
     (λ c. search needs)
     (λ c κs. search needs)
     returns-2

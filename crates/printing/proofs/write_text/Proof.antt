@@ -19,11 +19,12 @@ returns c =
 
 returns-2 : tie.Need-returns-2
 returns-2 c =
-    let k = c .before .before .before .before .before in
+    let accepted = c .before .before .before .before .before .before in
+    let k = accepted .before in
     let ending = k .before .args .ending in
     let is = k .close .ensures in
-    let e = sym (ap (λ closed. closed .refusal) is) ∙ c .before .before .before .before .if1 .left in
-    let p = named (ap (λ closed. settledText (ending .state) (closed .figures)) is ∙ text-settled ending e) (c .put-settled .ensures) in
+    let e = sym (ap (λ closed. closed .refusal) is) ∙ accepted .if1 .left in
+    let p = named (ap (λ closed. settledText (ending .state) (closed .figures)) is ∙ text-settled ending e) (c .put-figures .ensures) in
     ((front-end p, omega (arith, p .within)), (p .bytes, front-counts p))
 
 pub write-text-spec : {M : Type 1} → statement M

@@ -4,11 +4,10 @@ use mathlib.Core.List.{List}
 use Prim.Native.Nat.{ℕ, _<_, _^_}
 use native.Mathlib.Omega.{arith}
 use lib.Signed.{mag}
-use Rattle.book.specs.Reading.{readBook}
 use Rattle.book.specs.Endings.{closedAfter}
 use Rattle.book.specs.Settling.{closingOf, wordsOf}
 use Rattle.book.specs.Results.{wordBytes}
-use Rattle.book.proofs.Endings.{ending-closes, no-room, not-settled, all-settled}
+use Rattle.book.proofs.Endings.{no-room, not-settled, all-settled}
 use Rattle.book.proofs.Results.{closed-small}
 use borrow.Author.Needs.{needs}
 use Rattle.book.proofs.settling.settle.Statement.{statement}
@@ -19,8 +18,8 @@ module _ (k : tie.After-close) where
   abbrev book : List ℕ
   book = k .before .before .before .before .before .args .book .now
 
-  closed-is : k .close .result ≡ closingOf (readBook book)
-  closed-is = k .close .ensures ∙ ap closedAfter (k .before .read .ensures) ∙ ending-closes book
+  closed-is : k .close .result ≡ closingOf book
+  closed-is = k .close .ensures ∙ ap closedAfter (k .before .read .ensures)
 
 returns : tie.Need-returns
 returns c = no-room _ _ (c .if1 .taken)
