@@ -37,7 +37,7 @@ fn chosen_days(test: u32, marks: [u8; DAYS_BACK], readings: &[u8], slot: usize) 
 }
 
 // Where the choice ends: six window sums and six earlier sums, each over the four days.
-pub fn day_sums(readings: &[u8], days: [usize; 4], slot: usize) -> [[u64; WINDOW_SLOTS]; 2]
+fn day_sums(readings: &[u8], days: [usize; 4], slot: usize) -> [[u64; WINDOW_SLOTS]; 2]
     requires { ⌜ Tested (now readings) slot × Back days ⌝ }
     ensures { λ r. ⌜ r ≡ daySums (now (readings .entry)) days slot ⌝ }
 {
