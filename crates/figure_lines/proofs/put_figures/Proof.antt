@@ -13,14 +13,13 @@ returns c =
     let first = second .before .before .before .before .before .before in
     then (first .put-date-line .ensures .0)
     (then (second .put-line .ensures .0)
-    (then (rw (first .before .before .slot-totals .ensures) at (third .put-slots .ensures .0))
+    (then (third .put-slots .ensures .0)
     (then (fourth .put-settled-lines .ensures .0) (fifth .put-capacity-lines .ensures))))
 
 pub put-figures-spec : {M : Type 1} → statement M
 put-figures-spec =
     tie.close
     (tie.spec
-    (λ c κs. search needs)
     (λ c κs. search needs)
     (λ c. search needs)
     (λ c. search needs)

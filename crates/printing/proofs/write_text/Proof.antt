@@ -24,7 +24,8 @@ returns-2 c =
     let ending = k .before .args .ending in
     let is = k .close .ensures in
     let e = sym (ap (λ closed. closed .refusal) is) ∙ accepted .if1 .left in
-    let p = named (ap (λ closed. settledText (ending .state) (closed .figures)) is ∙ text-settled ending e) (c .put-figures .ensures) in
+    let put = rw (c .before .before .before .slot-totals .ensures) at (c .put-figures .ensures) in
+    let p = named (ap (λ closed. settledText (ending .state) (closed .figures)) is ∙ text-settled ending e) put in
     ((front-end p, omega (arith, p .within)), (p .bytes, front-counts p))
 
 pub write-text-spec : {M : Type 1} → statement M
@@ -36,5 +37,6 @@ write-text-spec =
     (λ c. search needs)
     (λ c κs. search needs)
     returns
+    (λ c κs. search needs)
     (λ c κs. omega arith)
     returns-2)
