@@ -113,7 +113,7 @@ total-small state s i =
     let o = opens (state .head) (state .marks) (s .content) in
     omega (arith, none-beyond (mostResult * state .points) (slotTotals state) (rw (s .totals) tt) i)
 
--- ---- along a run
+-- ---- opening gives one, and adding keeps it
 
 module _ (head calendar : List ℕ) (accepted : openingRefusal head calendar ≡ 0) where
   pub opened-sound : Sound (opened (headOf head) calendar)

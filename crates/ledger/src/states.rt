@@ -1,10 +1,5 @@
 // The settlement state.
 ghost use mathlib.Core.Path.{_≡_};
-ghost use mathlib.Core.List.{List};
-ghost use Prim.Native.Nat.{ℕ};
-ghost use lib.Dec.{ltb};
-ghost use lib.IntN.{ℤ, natAbs};
-ghost use Rattle.numbers.specs.Lists.{any};
 ghost use Rattle.ledger.specs.States.{opened, noState, slotTotals, isUnsound};
 use crate::State;
 use heads::Head;
