@@ -29,7 +29,7 @@ returns c =
     let k = at-loop .loop .k in
     let e = c .before .mark-refusal .ensures in
     let wrong = mark-told (getD marks k 0) (λ z. c .if1 .taken (e ∙ z)) in
-    rw (e, wrong, at-loop .loop .inv .1 ∙ any-here isWrong marks k 0 (omega arith) wrong)
+    e ∙ rw (wrong, at-loop .loop .inv .1 ∙ any-here isWrong marks k 0 (omega arith) wrong)
 
 loop-again : tie.Need-loop-again Inv-loop μ-loop
 loop-again c =

@@ -1,6 +1,7 @@
 -- The bytes are filled from the front: what is done stays within them.
-use mathlib.Core.Path.{_≡_}
+use mathlib.Core.Path.{_≡_, refl}
 use Prim.Native.Nat.{_≤_, _-_}
+use native.Mathlib.Omega.{arith}
 use lib.ListN.{length}
 use borrow.Author.Needs.{needs}
 use Rattle.input.proofs.fill.Statement.{statement}
@@ -18,7 +19,7 @@ fill-spec =
     (tie.spec
     Inv-loop
     μ-loop
-    (λ c. search needs)
+    (λ c. (omega arith, refl))
     (λ c. search needs)
     (λ c. search needs)
     (λ c. search needs)
