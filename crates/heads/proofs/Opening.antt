@@ -24,7 +24,6 @@ pub record Opens (h : Head) : Type 0 where
   pub first-slot : earliestSlot ≤ h .slot
   pub last-slot : h .slot ≤ latestSlot
   pub losses : (i : ℕ) → getD (h .losses) i 0 ≤ mostLoss
-  pub some-points : 1 ≤ h .count
   pub most-points : h .count ≤ mostPoints
 
 pub opens : (h : Head) (marks : List ℕ) → contentRefusal h marks ≡ 0 → Opens h
@@ -37,7 +36,6 @@ opens h marks e =
       first-slot = leb-yes (slots .0);
       last-slot = leb-yes (slots .1);
       losses = λ i. ltb-false _ _ (any-none (λ loss. ltb mostLoss loss) 0 refl (h .losses) (c 5) i);
-      some-points = leb-yes (points .0);
       most-points = leb-yes (points .1);
     }
 

@@ -3,8 +3,5 @@ use borrow.Author.Needs.{needs}
 use Rattle.feeding.proofs.got_calendar.Statement.{statement}
 use Rattle.feeding.proofs.got_calendar.Tie as tie
 
-returns : tie.Need-returns
-returns c = rw (c .go-on .ensures, c .before .before .open .ensures)
-
 pub got-calendar-spec : {M : Type 1} → statement M
-got-calendar-spec = tie.close (tie.spec (λ c. search needs) (λ c κs. search needs) (λ c κs. search needs) returns)
+got-calendar-spec = tie.close (tie.spec (λ c. search needs) (λ c κs. search needs) (λ c κs. search needs) (λ c. rw (c .go-on .ensures, c .before .before .open .ensures)))

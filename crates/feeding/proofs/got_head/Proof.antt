@@ -3,8 +3,5 @@ use borrow.Author.Needs.{needs}
 use Rattle.feeding.proofs.got_head.Statement.{statement}
 use Rattle.feeding.proofs.got_head.Tie as tie
 
-returns : tie.Need-returns
-returns c = rw (c .before .kept-head .ensures)
-
 pub got-head-spec : {M : Type 1} → statement M
-got-head-spec = tie.close (tie.spec (λ c κs. search needs) returns)
+got-head-spec = tie.close (tie.spec (λ c κs. search needs) (λ c. rw (c .before .kept-head .ensures)))

@@ -3,8 +3,5 @@ use borrow.Author.Needs.{needs}
 use Rattle.feeding.proofs.refused_at.Statement.{statement}
 use Rattle.feeding.proofs.refused_at.Tie as tie
 
-returns : tie.Need-returns
-returns c = rw (c .no-state .ensures)
-
 pub refused-at-spec : {M : Type 1} → statement M
-refused-at-spec = tie.close (tie.spec (λ c κs. search needs) returns)
+refused-at-spec = tie.close (tie.spec (λ c κs. search needs) (λ c. rw (c .no-state .ensures)))

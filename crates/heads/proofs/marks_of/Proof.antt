@@ -17,9 +17,6 @@ abbrev μ-loop : tie.MeasureT-loop
 loop-holds : tie.Need-loop-holds Inv-loop μ-loop
 loop-holds c = (search needs, refl, c .pre, refl)
 
-shared-slice-read-marks : tie.Need-shared-slice-read-marks Inv-loop μ-loop
-shared-slice-read-marks c = omega arith
-
 loop-again : tie.Need-loop-again Inv-loop μ-loop
 loop-again c =
     let l = c .before .before .loop in
@@ -35,7 +32,7 @@ marks-of-spec =
     Inv-loop
     μ-loop
     loop-holds
-    shared-slice-read-marks
+    (λ c. omega arith)
     (λ c. search needs)
     (λ c. search needs)
     (λ c. search needs)

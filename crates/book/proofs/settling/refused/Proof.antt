@@ -3,8 +3,5 @@ use borrow.Author.Needs.{needs}
 use Rattle.book.proofs.settling.refused.Statement.{statement}
 use Rattle.book.proofs.settling.refused.Tie as tie
 
-returns : tie.Need-returns
-returns c = rw (c .no-state .ensures)
-
 pub refused-spec : {M : Type 1} → statement M
-refused-spec = tie.close (tie.spec (λ c κs. search needs) returns)
+refused-spec = tie.close (tie.spec (λ c κs. search needs) (λ c. rw (c .no-state .ensures)))

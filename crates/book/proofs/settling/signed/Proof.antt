@@ -5,8 +5,5 @@ use borrow.Author.Needs.{needs}
 use Rattle.book.proofs.settling.signed.Statement.{statement}
 use Rattle.book.proofs.settling.signed.Tie as tie
 
-returns : tie.Need-returns
-returns c = toZ-pos w64 (c .pre)
-
 pub signed-spec : {M : Type 1} → statement M
-signed-spec = tie.close (tie.spec (λ c. search needs) returns)
+signed-spec = tie.close (tie.spec (λ c. search needs) (λ c. toZ-pos w64 (c .pre)))
