@@ -15,7 +15,8 @@ use Rattle.ledger.specs.Operations.{openOf, addingRefusal, addOf, closingRefusa
 use Rattle.fields.specs.Fields.{fieldRefusal, fieldOf}
 use Rattle.book.specs.Reading.{readPoints, readBook}
 use Rattle.lines.specs.Numerals.{digitsOf}
-use Rattle.printing.specs.Printed.{slotLines, textOf}
+use Rattle.figure_lines.specs.FigureLines.{slotLines}
+use Rattle.printing.specs.Printed.{textOf}
 use Rattle.worked_examples.specs.ExampleM.{ExampleM, EmptyBook}
 
 pub example-m : ExampleM
