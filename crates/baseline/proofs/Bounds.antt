@@ -6,12 +6,12 @@ use Prim.Native.Nat.{ℕ, zero, suc, _*_, _≤_}
 use native.Mathlib.Omega.{arith}
 use lib.ListN.{length, replicate}
 use Rattle.numbers.specs.Lists.{run}
-use Rattle.numbers.specs.Slots.{daysBack}
+use Rattle.numbers.specs.Slots.{daysBack, daysUsed}
 use Rattle.numbers.proofs.Filling.{run-length}
 use Rattle.calendar.specs.Eligible.{ofDay, isEligible}
 use Rattle.readings.specs.Readings.{mostReading, readingCount, firstLarge, windowSums, lastWindow, earlierSlot, Back}
 use Rattle.readings.proofs.Bounds.{slot-sums-bound, earlier-use-bound}
-use Rattle.choosing.specs.Choosing.{daysUsed, isFew}
+use Rattle.choosing.specs.Choosing.{isFew}
 use Rattle.baseline.specs.Baseline.{chosenDays, daySums, baselineOn}
 use Rattle.choosing.specs.Days.{choice}
 use Rattle.baseline.specs.Consumers.{Sums}

@@ -5,9 +5,9 @@ use mathlib.Core.List.{List, []}
 use Prim.Native.Nat.{ℕ, _*_, _≤_}
 use lib.ListN.{length, getD, replicate}
 use Rattle.numbers.specs.Lists.{run}
-use Rattle.numbers.specs.Slots.{windowSlots}
+use Rattle.numbers.specs.Slots.{daysUsed, windowSlots}
 use Rattle.readings.specs.Readings.{mostReading, readingCount, readingsLength, firstLarge, lastWindow, earlierBy}
-use Rattle.choosing.specs.Choosing.{daysUsed, isFew}
+use Rattle.choosing.specs.Choosing.{isFew}
 use Rattle.choosing.specs.Days.{AtMost}
 use Rattle.baseline.specs.Baseline.{chosenDays, baselineOn}
 use Rattle.baseline.specs.declared.Baselines.{Baselines}

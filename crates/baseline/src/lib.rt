@@ -2,9 +2,8 @@
 ghost use mathlib.Core.Path.{_≡_};
 ghost use Prim.Native.Nat.{_+_, _*_, _-_, _≤_};
 ghost use Rattle.numbers.specs.Lists.{run, sum};
-ghost use Rattle.numbers.specs.Slots.{daysBack, windowSlots};
+ghost use Rattle.numbers.specs.Slots.{daysBack, daysUsed, windowSlots};
 ghost use Rattle.readings.specs.Readings.{mostReading, Back};
-ghost use Rattle.choosing.specs.Choosing.{daysUsed};
 ghost use Rattle.choosing.specs.Days.{AtMost, choice};
 ghost use Rattle.baseline.specs.Baseline.{chosenDays, daySums, baseline};
 ghost use Rattle.baseline.specs.Consumers.{Tested, Sums, consumerBaselines};
@@ -12,6 +11,7 @@ use calendar::eligible_days;
 use choosing::Chosen;
 use choosing::choose;
 use numbers::DAYS_BACK;
+use numbers::DAYS_USED;
 use numbers::WINDOW_SLOTS;
 use readings::EARLIER_BY;
 use readings::earlier_use;
@@ -22,7 +22,7 @@ use readings::window_sums;
 // not enough days.
 pub struct Baselines {
     pub enough: bool,
-    pub days: [usize; 4],
+    pub days: [usize; DAYS_USED],
     pub slots: [u64; WINDOW_SLOTS],
 }
 
@@ -37,7 +37,7 @@ fn chosen_days(test: u32, marks: [u8; DAYS_BACK], readings: &[u8], slot: usize) 
 }
 
 // Where the choice ends: six window sums and six earlier sums, each over the four days.
-fn day_sums(readings: &[u8], days: [usize; 4], slot: usize) -> [[u64; WINDOW_SLOTS]; 2]
+fn day_sums(readings: &[u8], days: [usize; DAYS_USED], slot: usize) -> [[u64; WINDOW_SLOTS]; 2]
     requires { ⌜ Tested (now readings) slot × Back days ⌝ }
     ensures { λ r. ⌜ r ≡ daySums (now (readings .entry)) days slot ⌝ }
 {
@@ -100,7 +100,7 @@ pub fn consumer_baselines(
     if !enough {
         return Baselines {
             enough: false,
-            days: [0; 4],
+            days: [0; DAYS_USED],
             slots: [0; WINDOW_SLOTS],
         };
     }

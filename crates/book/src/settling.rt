@@ -15,6 +15,7 @@ use fields::cutting;
 use figures::Figures;
 use ledger::Closed;
 use ledger::State;
+use numbers::WINDOW_SLOTS;
 
 // The length of a result: eight words of eight bytes.
 const RESULT_LENGTH: usize = 64;
@@ -43,7 +44,7 @@ fn read_points(opened: State, book: &[u8], start: usize) -> Ending
         };
         let from = at + 3;
         let end = from + size;
-        let mut places = [0i64; 6];
+        let mut places = [0i64; WINDOW_SLOTS];
         let added = ledger::add(state, tag, &book[from..end], &mut places);
         if added.refusal != refusals::ACCEPTED {
             return refused(added.refusal);

@@ -9,7 +9,8 @@ use lib.Dec.{leb, eqb}
 use lib.ListN.{length, getD, drop, drop-of-length-le}
 use lib.Seq.{drop-cons}
 use borrow.Author.Tests.{le-leb, lt-leb, eq-eqb, ne-eqb, eqb-true, eqb-false}
-use Rattle.choosing.specs.Choosing.{roundDays, daysUsed, lowest, used, chosen}
+use Rattle.numbers.specs.Slots.{daysUsed}
+use Rattle.choosing.specs.Choosing.{roundDays, lowest, used, chosen}
 use Rattle.choosing.specs.Days.{AtMost, Rising, none, next}
 use Rattle.choosing.proofs.Rising.{Few, In, here, there, without, without-length, rising-filter, rising-far}
 use Rattle.choosing.proofs.Rounds.{standing-few}

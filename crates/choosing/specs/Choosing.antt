@@ -5,14 +5,11 @@ use Prim.Native.Nat.{ℕ, zero, suc, _*_}
 use lib.Dec.{leb, ltb, eqb}
 use lib.ListN.{length, take, drop}
 use Rattle.numbers.specs.Lists.{sum, filter}
+use Rattle.numbers.specs.Slots.{daysUsed}
 
 -- 'A round takes the nearest five'
 abbrev pub roundDays : ℕ
 roundDays = 5
-
--- 'Four standing: all four are used.'
-abbrev pub daysUsed : ℕ
-daysUsed = 4
 
 -- what a round leaves of its five: a day 'whose window sum times 20 is less than the five sums together is dropped'
 abbrev pub round : (ℕ → ℕ) → List ℕ → List ℕ

@@ -5,10 +5,10 @@ use mathlib.Core.List.{List, [], _∷_, map}
 use Prim.Native.Nat.{ℕ, suc, _*_, _<_, _≤_}
 use lib.ListN.{length, getD, take, replicate}
 use Rattle.numbers.specs.Lists.{sum}
-use Rattle.numbers.specs.Slots.{daysBack, windowSlots}
+use Rattle.numbers.specs.Slots.{daysBack, daysUsed, windowSlots}
 use Rattle.calendar.specs.Eligible.{ofDay}
 use Rattle.readings.specs.Readings.{mostReading}
-use Rattle.choosing.specs.Choosing.{roundDays, daysUsed, round, standing, isFew}
+use Rattle.choosing.specs.Choosing.{roundDays, round, standing, isFew}
 use Rattle.choosing.specs.declared.Round.{Round}
 use Rattle.choosing.specs.declared.CountAndSum.{CountAndSum}
 use Rattle.choosing.specs.declared.Chosen.{Chosen}

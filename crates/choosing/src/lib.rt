@@ -4,21 +4,25 @@ ghost use mathlib.Core.Bool.{not};
 ghost use lib.Dec.{eqb};
 ghost use lib.ListN.{length, getD, drop};
 ghost use Rattle.numbers.specs.Lists.{filter};
-ghost use Rattle.numbers.specs.Slots.{daysBack};
+ghost use Rattle.numbers.specs.Slots.{daysBack, daysUsed};
 ghost use Rattle.calendar.specs.Eligible.{ofDay};
-ghost use Rattle.choosing.specs.Choosing.{daysUsed, lowest, chosen};
+ghost use Rattle.choosing.specs.Choosing.{lowest, chosen};
 ghost use Rattle.choosing.specs.Days.{WindowSums, daysFrom, Rising, Five, Kept, Stood, choice};
 use numbers::DAYS_BACK;
+use numbers::DAYS_USED;
+
+// The days of a round.
+const ROUND_DAYS: usize = 5;
 
 // The four days, nearest first, or four zeros where there are not enough.
 pub struct Chosen {
     pub enough: bool,
-    pub days: [usize; 4],
+    pub days: [usize; DAYS_USED],
 }
 
 // The days of a round, nearest first: the first `count` of `days`, and their window sums together.
 struct Round {
-    days: [usize; 5],
+    days: [usize; ROUND_DAYS],
     count: usize,
     all: u64,
 }
@@ -58,13 +62,13 @@ fn walk(eligible: [bool; DAYS_BACK], sums: &[u64]) -> Round
     requires { ⌜ WindowSums (now sums) ⌝ }
     ensures { λ r. ⌜ Stood (now (sums .entry)) eligible r ⌝ }
 {
-    let mut days = [0usize; 5];
+    let mut days = [0usize; ROUND_DAYS];
     let mut all: u64 = 0;
     let mut stood: usize = 0;
     let mut k: usize = 0;
     'walk: loop {
         let mut count = stood;
-        while count < 5 {
+        while count < ROUND_DAYS {
             if DAYS_BACK <= k {
                 stood = count;
                 break 'walk;
@@ -79,7 +83,7 @@ fn walk(eligible: [bool; DAYS_BACK], sums: &[u64]) -> Round
         let five = CountAndSum { count, all };
         let left = keep(&mut days, sums, five);
         stood = left.count;
-        if stood == 5 {
+        if stood == ROUND_DAYS {
             break 'walk;
         }
         all = left.all;
@@ -92,13 +96,13 @@ fn walk(eligible: [bool; DAYS_BACK], sums: &[u64]) -> Round
 }
 
 // The day with the lowest window sum; among equals the farthest.
-fn lowest_of(days: [usize; 5], sums: &[u64]) -> usize
+fn lowest_of(days: [usize; ROUND_DAYS], sums: &[u64]) -> usize
     requires { ⌜ WindowSums (now sums) × Rising 0 daysBack days ⌝ }
     ensures { λ r. ⌜ r ≡ lowest (ofDay (now (sums .entry))) (getD days 0 0) (drop 1 days) ⌝ }
 {
     let mut low = days[0];
     let mut i: usize = 1;
-    while i < 5 {
+    while i < ROUND_DAYS {
         let day = days[i];
         if sums[day - 1] <= sums[low - 1] {
             low = day;
@@ -109,14 +113,14 @@ fn lowest_of(days: [usize; 5], sums: &[u64]) -> usize
 }
 
 // The four of five days that are not day `low`.
-fn without(days: [usize; 5], low: usize) -> [usize; 4]
+fn without(days: [usize; ROUND_DAYS], low: usize) -> [usize; DAYS_USED]
     requires { ⌜ length (filter (λ other. not (eqb other low)) days) ≡ daysUsed ⌝ }
     ensures { λ r. ⌜ r ≡ filter (λ other. not (eqb other low)) days ⌝ }
 {
-    let mut four = [0usize; 4];
+    let mut four = [0usize; DAYS_USED];
     let mut count: usize = 0;
     let mut i: usize = 0;
-    while i < 5 {
+    while i < ROUND_DAYS {
         let day = days[i];
         if day != low {
             four[count] = day;
@@ -135,13 +139,13 @@ pub fn choose(eligible: [bool; DAYS_BACK], sums: &[u64]) -> Chosen
     let stood = walk(eligible, sums);
     let count = stood.count;
     let days = stood.days;
-    if count < 4 {
+    if count < DAYS_USED {
         return Chosen {
             enough: false,
-            days: [0; 4],
+            days: [0; DAYS_USED],
         };
     }
-    if count == 4 {
+    if count == DAYS_USED {
         let all = [days[0], days[1], days[2], days[3]];
         return Chosen {
             enough: true,

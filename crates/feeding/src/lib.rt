@@ -10,6 +10,7 @@ ghost use Rattle.fields.specs.declared.Due.the-variants.{Head, Calendar, Point}
 use fields::Due;
 use heads::HEAD_LENGTH;
 use ledger::State;
+use numbers::WINDOW_SLOTS;
 
 // What is waited for: a header, the value behind one, the end of the book, or nothing more.
 pub enum Wait {
@@ -173,7 +174,7 @@ fn got_point(tag: u8, progress: Progress, value: &[u8]) -> Progress
     ensures { λ r. ⌜ r ≡ got Point tag progress (now (value .entry)) ⌝ }
 {
     let before = progress.state;
-    let mut places = [0i64; 6];
+    let mut places = [0i64; WINDOW_SLOTS];
     let added = ledger::add(before, tag, value, &mut places);
     let refusal = added.refusal;
     let state = added.state;

@@ -6,6 +6,7 @@ ghost use Rattle.figure_lines.specs.FigureLines.{dashed, date, dateLine,
 ghost use Rattle.figure_lines.specs.FigureLines.{capacityLines, figureLines};
 use figures::Figures;
 use heads::Head;
+use numbers::WINDOW_SLOTS;
 
 fn put_dashed(number: u8, at: usize, out: &mut [u8]) -> usize
     requires { ⌜ at + 22 ≤ length (now out) ⌝ }
@@ -36,14 +37,14 @@ fn put_date_line(head: Head, at: usize, out: &mut [u8]) -> usize
     lines::put_line(b" slot ", head.slot as u64, dated, out)
 }
 
-fn put_slots(totals: [i64; 6], at: usize, out: &mut [u8]) -> usize
+fn put_slots(totals: [i64; WINDOW_SLOTS], at: usize, out: &mut [u8]) -> usize
     requires { ⌜ at + 288 ≤ length (now out) ⌝ }
     ensures { λ r. ⌜ Placed (slotLines 1 totals) at (now (out .entry)) r (now (out .exit)) ⌝ }
     ensures { λ r. ⌜ r ≤ at + 288 ⌝ }
 {
     let mut end = at;
     let mut i: usize = 0;
-    while i < 6 {
+    while i < WINDOW_SLOTS {
         let named = lines::put(b"slot ", end, out);
         let numbered = lines::put_number((i + 1) as u64, named, out);
         end = lines::put_signed_line(b" ", totals[i], numbered, out);
@@ -85,7 +86,7 @@ fn put_capacity_lines(figures: Figures, at: usize, out: &mut [u8]) -> usize
 // All of them, from a place of the lent bytes on.
 pub fn put_figures(
     head: Head,
-    totals: [i64; 6],
+    totals: [i64; WINDOW_SLOTS],
     figures: Figures,
     at: usize,
     out: &mut [u8],

@@ -7,6 +7,7 @@ ghost use lib.ListN.{getD};
 ghost use Rattle.heads.specs.Limits.{leastBid};
 ghost use Rattle.figures.specs.Figures.{shortfallOf, figuresOf, noFigures};
 use crate::Figures;
+use numbers::WINDOW_SLOTS;
 
 // Watt-hours of three hours in one kW: the step from the total to the settled capacity.
 const WATT_HOURS: u32 = 3000;
@@ -48,7 +49,7 @@ fn is_bid(expected: u64) -> bool
 }
 
 // The figures of a contract, slot totals and points taken.
-pub fn figures_of(contract: u32, totals: [i64; 6], points: u32) -> Figures
+pub fn figures_of(contract: u32, totals: [i64; WINDOW_SLOTS], points: u32) -> Figures
     requires { ⌜ ((i : ℕ) → natAbs (getD totals i (pos 0)) ≤ 1000000000000000) ⌝ }
     ensures { λ r. ⌜ r ≡ figuresOf contract totals points ⌝ }
 {

@@ -9,6 +9,10 @@ slotsOfDay = 48
 abbrev pub daysBack : ℕ
 daysBack = 30
 
+-- 'the four chosen days'
+abbrev pub daysUsed : ℕ
+daysUsed = 4
+
 -- 'The window is slots s to s+5'
 abbrev pub windowSlots : ℕ
 windowSlots = 6

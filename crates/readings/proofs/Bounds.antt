@@ -4,7 +4,7 @@ use mathlib.Core.List.{List}
 use Prim.Native.Nat.{ℕ, _+_, _*_, _<_, _≤_}
 use native.Mathlib.Omega.{arith}
 use lib.ListN.{length, getD}
-use Rattle.numbers.specs.Slots.{slotsOfDay, daysBack, windowSlots}
+use Rattle.numbers.specs.Slots.{slotsOfDay, daysBack, daysUsed, windowSlots}
 use Rattle.readings.specs.Readings.{mostReading, readingCount, firstLarge, reading, windowSum, windowSums, lastWindow, earlierSlot}
 use Rattle.readings.specs.Readings.{slotSum, slotSums, earlierUse, Back}
 use Rattle.readings.proofs.Sums.{run-within, sum-within, days-within}
@@ -15,7 +15,7 @@ abbrev pub mostWindowSum : ℕ
 mostWindowSum = windowSlots * mostReading
 
 abbrev pub mostSlotSum : ℕ
-mostSlotSum = 4 * mostReading
+mostSlotSum = daysUsed * mostReading
 
 module _ (readings : List ℕ) (fits : firstLarge readings readingCount ≡ readingCount) where
   pub reading-bound : (k i : ℕ) → k ≤ daysBack → i < slotsOfDay → reading readings k i ≤ mostReading

@@ -9,6 +9,7 @@ ghost use Rattle.readings.specs.Readings.{mostReading, readingLength, re
 ghost use Rattle.readings.specs.Readings.{windowSum, windowSums, slotSum, slotSums, earlierUse, Back};
 ghost use Rattle.readings.specs.Packed.{isSmall, Passes};
 use numbers::DAYS_BACK;
+use numbers::DAYS_USED;
 use numbers::SLOTS_OF_DAY;
 use numbers::WINDOW_SLOTS;
 use numbers::word32_at;
@@ -189,7 +190,7 @@ fn sum4(a: u32, b: u32, c: u32, d: u32) -> u64
 }
 
 // A slot over four days.
-fn slot_sum(readings: &[u8], days: [usize; 4], slot: usize) -> u64
+fn slot_sum(readings: &[u8], days: [usize; DAYS_USED], slot: usize) -> u64
     requires { ⌜ (length (now readings) ≡ readingsLength) × (slot < slotsOfDay) × Back days ⌝ }
     ensures { λ r. ⌜ r ≡ slotSum (now (readings .entry)) days slot ⌝ }
 {
@@ -202,7 +203,7 @@ fn slot_sum(readings: &[u8], days: [usize; 4], slot: usize) -> u64
 }
 
 // The six slots from one on, each over four days.
-pub fn slot_sums(readings: &[u8], days: [usize; 4], slot: usize) -> [u64; WINDOW_SLOTS]
+pub fn slot_sums(readings: &[u8], days: [usize; DAYS_USED], slot: usize) -> [u64; WINDOW_SLOTS]
     requires { ⌜ (length (now readings) ≡ readingsLength) × (slot ≤ lastWindow) × Back days ⌝ }
     ensures { λ r. ⌜ r ≡ slotSums (now (readings .entry)) days slot ⌝ }
 {

@@ -13,7 +13,6 @@ use Rattle.numbers.specs.Lists.{run}
 use Rattle.numbers.proofs.Parts.{rest-of}
 use Rattle.numbers.proofs.Refusals.{untold}
 use Rattle.calendar.specs.Dates.{isDate}
-use Rattle.readings.specs.Readings.{mostReading}
 use Rattle.readings.proofs.Sums.{run-within}
 use Rattle.choosing.specs.Choosing.{isFew}
 use Rattle.baseline.specs.Baseline.{chosenDays, baselineOn}
@@ -27,7 +26,7 @@ use Rattle.heads.specs.declared.Head.{Head}
 use Rattle.heads.proofs.Opening.{both, opens}
 use Rattle.points.specs.Points.{consumer, classOf}
 use Rattle.results.specs.SlotResults.{lossOf, daysOf, quotients}
-use Rattle.results.specs.Steps.{Passed, consumerSlot, foundOf}
+use Rattle.results.specs.Steps.{Passed, mostConsumerBaseline, consumerSlot, foundOf}
 use Rattle.results.proofs.Bounds.{all-tested}
 
 module _ {h : Head} {marks v : List ℕ} (p : Passed h marks consumer v) where
@@ -73,9 +72,9 @@ module _ {h : Head} {marks v : List ℕ} (p : Passed h marks consumer v) where
       unfolding baselinesOn
       on-days = ap (λ a. a .slots) is-answer ∙ rw four
 
-      pub baselines-small : AtMost 48_000_000_000 (answer .slots)
+      pub baselines-small : AtMost mostConsumerBaseline (answer .slots)
       baselines-small =
-          rw on-days (run-within (baselineOn (drop 23 v) (daysOf h marks v) (h .slot)) (48 * mostReading) 0 6
+          rw on-days (run-within (baselineOn (drop 23 v) (daysOf h marks v) (h .slot)) mostConsumerBaseline 0 6
           λ j l. baseline-bound (testDay h) marks (drop 23 v) (h .slot) (tested .small) (tested .last) (0 + j))
 
       pub consumer-results : foundOf h marks consumer v

@@ -7,8 +7,9 @@ use lib.IntN.{ℤ, pos, _-ℤ_, _*ℤ_}
 use lib.ListN.{getD}
 use Rattle.numbers.specs.Lists.{run}
 use Rattle.numbers.specs.Words.{word32}
+use Rattle.numbers.specs.Slots.{windowSlots}
 use Rattle.integers.specs.Integers.{floorDiv}
-use Rattle.readings.specs.Readings.{reading, earlierUse}
+use Rattle.readings.specs.Readings.{readingLength, reading, earlierUse}
 use Rattle.choosing.specs.Choosing.{isFew}
 use Rattle.baseline.specs.Baseline.{chosenDays, daySums, baseline}
 use Rattle.heads.specs.Heads.{testDay}
@@ -48,11 +49,12 @@ consumerQuotients h marks value =
     let readings = readingsOf consumer value in
     let sums = daySums readings (daysOf h marks value) (h .slot) in
     let earlier = earlierUse readings (h .slot) in
-    run (λ j. consumerQuotient (lossOf h value) (baseline sums earlier j) (reading readings 0 (h .slot + j))) 0 6
+    run (λ j. consumerQuotient (lossOf h value) (baseline sums earlier j) (reading readings 0 (h .slot + j))) 0 windowSlots
 
 -- those of a generator
 abbrev pub generatorQuotients : List ℕ → List Quotient
-generatorQuotients value = run (λ j. generatorQuotient (baselineOf value) (word32 (readingsOf generator value) (j * 4))) 0 6
+generatorQuotients value =
+    run (λ j. generatorQuotient (baselineOf value) (word32 (readingsOf generator value) (j * readingLength))) 0 windowSlots
 
 -- those of a point
 unfoldable pub quotients : Head → List ℕ → Kind → List ℕ → List Quotient

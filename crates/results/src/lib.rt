@@ -3,25 +3,34 @@ ghost use mathlib.Core.Path.{_≡_};
 ghost use Prim.Native.Nat.{_≤_};
 ghost use lib.ListN.{length};
 ghost use Rattle.numbers.specs.Lists.{run};
+ghost use Rattle.numbers.specs.Slots.{windowSlots};
+ghost use Rattle.readings.specs.Readings.{mostReading};
 ghost use Rattle.choosing.specs.Days.{AtMost};
 ghost use Rattle.baseline.specs.Consumers.{Tested};
-ghost use Rattle.heads.specs.Limits.{mostBaseline};
-ghost use Rattle.points.specs.Points.{consumer, kindOf, baselineOf};
+ghost use Rattle.heads.specs.Limits.{mostLoss, mostBaseline};
+ghost use Rattle.points.specs.Points.{consumer, generatorLength, kindOf, baselineOf};
 ghost use Rattle.results.specs.SlotResults.{consumerQuotient, generatorQuotient, generatorQuotients, rounded};
-ghost use Rattle.results.specs.Steps.{Passed, consumerSlot, allFound, foundOf};
+ghost use Rattle.results.specs.Steps.{Passed, mostConsumerBaseline, consumerSlot, allFound, foundOf};
 use heads::Head;
+use numbers::DAYS_BACK;
+use numbers::WINDOW_SLOTS;
+use points::BASELINE_AT;
+use points::CLASS_AT;
 use points::CONSUMER;
+use points::CONSUMER_READINGS_AT;
 use points::GENERATOR;
+use points::GENERATOR_READINGS_AT;
+use readings::READING_LENGTH;
 
 // The six results, unless there are not four days.
 pub struct Found {
     pub enough: bool,
-    pub found: [i64; 6],
+    pub found: [i64; WINDOW_SLOTS],
 }
 
 // One slot of a consumer: multiplied without a sign and subtracted once, then divided.
 fn consumer_result(loss: u16, base: u64, used: u32) -> i64
-    requires { ⌜ (loss ≤ 5000) × (base ≤ 48000000000) × (used ≤ 1000000000) ⌝ }
+    requires { ⌜ (loss ≤ mostLoss) × (base ≤ mostConsumerBaseline) × (used ≤ mostReading) ⌝ }
     ensures { λ r. ⌜ r ≡ rounded (consumerQuotient loss base used) ⌝ }
 {
     let above = integers::minus(10000 * base, 240000 * (used as u64));
@@ -37,14 +46,19 @@ fn generator_result(baseline: u32, metered: u32) -> i64
 }
 
 // The six results of a consumer, from its baseline in the window slots.
-fn consumer_results(loss: u16, slots: [u64; 6], readings: &[u8], slot: usize) -> [i64; 6]
-    requires { ⌜ (loss ≤ 5000) × AtMost 48_000_000_000 slots × Tested (now readings) slot ⌝ }
-    ensures { λ r. ⌜ r ≡ run (consumerSlot loss slots (now (readings .entry)) slot) 0 6 ⌝ }
+fn consumer_results(
+    loss: u16,
+    slots: [u64; WINDOW_SLOTS],
+    readings: &[u8],
+    slot: usize,
+) -> [i64; WINDOW_SLOTS]
+    requires { ⌜ (loss ≤ mostLoss) × AtMost mostConsumerBaseline slots × Tested (now readings) slot ⌝ }
+    ensures { λ r. ⌜ r ≡ run (consumerSlot loss slots (now (readings .entry)) slot) 0 windowSlots ⌝ }
 {
-    let mut found = [0i64; 6];
+    let mut found = [0i64; WINDOW_SLOTS];
     let mut j: usize = 0;
-    while j < 6 {
-        let used = numbers::word32_at(readings, (slot + j) * 4);
+    while j < WINDOW_SLOTS {
+        let used = numbers::word32_at(readings, (slot + j) * READING_LENGTH);
         found[j] = consumer_result(loss, slots[j], used);
         j += 1;
     }
@@ -52,7 +66,7 @@ fn consumer_results(loss: u16, slots: [u64; 6], readings: &[u8], slot: usize) ->
 }
 
 // A consumer: its days and the baseline on them, then the results.
-fn consumer_found(head: Head, marks: [u8; 30], value: &[u8]) -> Found
+fn consumer_found(head: Head, marks: [u8; DAYS_BACK], value: &[u8]) -> Found
     requires { ⌜ Passed head marks consumer (now value) ⌝ }
     ensures { λ r. ⌜ r ≡ foundOf head marks consumer (now (value .entry)) ⌝ }
 {
@@ -61,18 +75,18 @@ fn consumer_found(head: Head, marks: [u8; 30], value: &[u8]) -> Found
     let day = head.day;
     let test = calendar::day_count(year, month, day);
     let slot = head.slot as usize;
-    let on_days = baseline::consumer_baselines(test, marks, &value[23..], slot);
+    let on_days = baseline::consumer_baselines(test, marks, &value[CONSUMER_READINGS_AT..], slot);
     let enough = on_days.enough;
     if !enough {
         return Found {
             enough: false,
-            found: [0; 6],
+            found: [0; WINDOW_SLOTS],
         };
     }
     let slots = on_days.slots;
     let losses = head.losses;
-    let loss = points::loss_of(losses, value[22]);
-    let found = consumer_results(loss, slots, &value[23..], slot);
+    let loss = points::loss_of(losses, value[CLASS_AT]);
+    let found = consumer_results(loss, slots, &value[CONSUMER_READINGS_AT..], slot);
     Found {
         enough: true,
         found,
@@ -81,14 +95,14 @@ fn consumer_found(head: Head, marks: [u8; 30], value: &[u8]) -> Found
 
 // A generator: whatever the head and the calendar.
 fn generator_found(value: &[u8]) -> Found
-    requires { ⌜ (length (now value) ≡ 50) × (baselineOf (now value) ≤ mostBaseline) ⌝ }
+    requires { ⌜ (length (now value) ≡ generatorLength) × (baselineOf (now value) ≤ mostBaseline) ⌝ }
     ensures { λ r. ⌜ r ≡ allFound (generatorQuotients (now (value .entry))) ⌝ }
 {
-    let baseline = numbers::word32_at(value, 22);
-    let mut found = [0i64; 6];
+    let baseline = numbers::word32_at(value, BASELINE_AT);
+    let mut found = [0i64; WINDOW_SLOTS];
     let mut j: usize = 0;
-    while j < 6 {
-        let metered = numbers::word32_at(value, 26 + j * 4);
+    while j < WINDOW_SLOTS {
+        let metered = numbers::word32_at(value, GENERATOR_READINGS_AT + j * READING_LENGTH);
         found[j] = generator_result(baseline, metered);
         j += 1;
     }
@@ -99,7 +113,7 @@ fn generator_found(value: &[u8]) -> Found
 }
 
 // The results of a point's value: one function for each kind of point.
-pub fn results_of(head: Head, marks: [u8; 30], tag: u8, value: &[u8]) -> Found
+pub fn results_of(head: Head, marks: [u8; DAYS_BACK], tag: u8, value: &[u8]) -> Found
     requires { ⌜ Passed head marks (kindOf tag) (now value) ⌝ }
     ensures { λ r. ⌜ r ≡ foundOf head marks (kindOf tag) (now (value .entry)) ⌝ }
 {
@@ -108,7 +122,7 @@ pub fn results_of(head: Head, marks: [u8; 30], tag: u8, value: &[u8]) -> Found
         GENERATOR => generator_found(value),
         _ => Found {
             enough: false,
-            found: [0; 6],
+            found: [0; WINDOW_SLOTS],
         },
     }
 }

@@ -4,8 +4,8 @@ use native.Mathlib.Omega.{arith}
 use lib.ListN.{length}
 use borrow.Author.Needs.{needs}
 use borrow.Author.Tests.{not-true, not-false}
+use Rattle.numbers.specs.Slots.{daysUsed}
 use Rattle.readings.proofs.Bounds.{earlier-use-bound}
-use Rattle.choosing.specs.Choosing.{daysUsed}
 use Rattle.choosing.proofs.Choices.{few-days, four-days}
 use Rattle.baseline.specs.Consumers.{baselinesOn}
 use Rattle.baseline.proofs.Bounds.{day-sums-bound}

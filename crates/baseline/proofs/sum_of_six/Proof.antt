@@ -4,10 +4,9 @@ use Prim.Native.Nat.{_+_, _*_, _≤_}
 use native.Mathlib.Omega.{arith}
 use lib.ListN.{getD}
 use borrow.Author.Needs.{needs}
-use Rattle.numbers.specs.Slots.{windowSlots}
+use Rattle.numbers.specs.Slots.{daysUsed, windowSlots}
 use Rattle.readings.specs.Readings.{mostReading}
 use Rattle.readings.proofs.Sums.{six-places}
-use Rattle.choosing.specs.Choosing.{daysUsed}
 use Rattle.baseline.proofs.sum_of_six.Statement.{statement}
 use Rattle.baseline.proofs.sum_of_six.Tie as tie
 

@@ -8,7 +8,8 @@ use lib.Dec.{eqb}
 use lib.Seq.{take-all}
 use borrow.Author.Needs.{needs}
 use borrow.Author.Tests.{eq-eqb, ne-eqb}
-use Rattle.choosing.specs.Choosing.{roundDays, daysUsed}
+use Rattle.numbers.specs.Slots.{daysUsed}
+use Rattle.choosing.specs.Choosing.{roundDays}
 use Rattle.choosing.proofs.Keeping.{InFront, none-kept, all-kept, dropped, room, kept}
 use Rattle.choosing.proofs.without.Statement.{statement}
 use Rattle.choosing.proofs.without.Tie as tie
