@@ -44,10 +44,6 @@ isPoint Point = true
 abbrev pub shortRows : Due → ℕ → List (Bool × ℕ)
 shortRows due size = (isPoint due && eqb size 0, 20) ∷ (ltb size headerLength, 31) ∷ []
 
--- '41: wrong tag for head or calendar'
-abbrev pub otherTagRow : ℕ → ℕ → List (Bool × ℕ)
-otherTagRow due tag = (not (eqb tag due), 41) ∷ []
-
 -- '41: wrong tag for head or calendar; 11 for a point'
 abbrev pub dueTagRow : Due → ℕ → List (Bool × ℕ)
 dueTagRow due tag = (not (isTag due tag), cond (isPoint due) 11 41) ∷ []

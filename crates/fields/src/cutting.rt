@@ -3,8 +3,9 @@ ghost use mathlib.Core.Path.{_≡_};
 ghost use Prim.Native.Nat.{_≤_};
 ghost use Rattle.numbers.specs.Refusals.{firstOf};
 ghost use Rattle.points.specs.Points.{consumerLength};
-ghost use Rattle.fields.specs.Fields.{lengthDue, shortRows, otherTagRow, dueTagRow, dueLengthRow};
+ghost use Rattle.fields.specs.Fields.{lengthDue, shortRows, dueTagRow, dueLengthRow};
 ghost use Rattle.fields.specs.Fields.{headerRefusal, fieldOf, refusalOf};
+ghost use Rattle.fields.specs.declared.Due.the-variants.{Head, Calendar};
 use crate::Due;
 use crate::Field;
 use crate::HEADER_LENGTH;
@@ -50,14 +51,24 @@ fn short_refusal(due: Due, left: usize) -> u32
     }
 }
 
-// A tag that is not that of the head, or of the calendar, which is due.
-fn other_tag_refusal(due: u8, tag: u8) -> u32
-    ensures { λ r. ⌜ r ≡ firstOf (otherTagRow due tag) ⌝ }
+// A tag that may not stand where a head is due.
+fn head_tag_refusal(tag: u8) -> u32
+    ensures { λ r. ⌜ r ≡ firstOf (dueTagRow Head tag) ⌝ }
 {
-    if tag == due {
-        return refusals::ACCEPTED;
+    match tag {
+        heads::HEAD_TAG => refusals::ACCEPTED,
+        _ => refusals::WRONG_TAG,
     }
-    refusals::WRONG_TAG
+}
+
+// A tag that may not stand where a calendar is due.
+fn calendar_tag_refusal(tag: u8) -> u32
+    ensures { λ r. ⌜ r ≡ firstOf (dueTagRow Calendar tag) ⌝ }
+{
+    match tag {
+        heads::CALENDAR_TAG => refusals::ACCEPTED,
+        _ => refusals::WRONG_TAG,
+    }
 }
 
 // A tag that may not stand where a field is due.
@@ -65,8 +76,8 @@ fn tag_refusal(due: Due, tag: u8) -> u32
     ensures { λ r. ⌜ r ≡ firstOf (dueTagRow due tag) ⌝ }
 {
     match due {
-        Due::Head => other_tag_refusal(heads::HEAD_TAG, tag),
-        Due::Calendar => other_tag_refusal(heads::CALENDAR_TAG, tag),
+        Due::Head => head_tag_refusal(tag),
+        Due::Calendar => calendar_tag_refusal(tag),
         Due::Point => points::tag_refusal(tag),
     }
 }

@@ -6,10 +6,10 @@ use Rattle.fields.proofs.cutting.tag_refusal.Statement.{statement}
 use Rattle.fields.proofs.cutting.tag_refusal.Tie as tie
 
 returns : tie.Need-returns
-returns c = rw (c .before .enum-told .given .1) (c .other-tag-refusal .ensures)
+returns c = rw (c .before .enum-told .given .1) (c .head-tag-refusal .ensures)
 
 returns-2 : tie.Need-returns-2
-returns-2 c = rw (c .before .enum-told2 .given .1) (c .other-tag-refusal2 .ensures)
+returns-2 c = rw (c .before .enum-told2 .given .1) (c .calendar-tag-refusal .ensures)
 
 returns-3 : tie.Need-returns-3
 returns-3 c = rw (c .before .enum-told3 .given .1) (c .tag-refusal .ensures ∙ point-tag (c .before .before .before .args .tag))
