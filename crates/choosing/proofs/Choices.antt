@@ -8,7 +8,7 @@ use lib.ListN.{length, getD, take, drop, replicate}
 use lib.Seq.{take-suc, take-all}
 use borrow.Author.Tests.{lt-ltb, le-ltb, not-true, not-false}
 use Rattle.choosing.specs.Choosing.{standing, lowest, used, isFew, chosen}
-use Rattle.choosing.specs.Days.{Rising, Holds, choice}
+use Rattle.choosing.specs.Days.{Rising, HoldsDays, choice}
 use Rattle.choosing.specs.declared.Chosen.{Chosen}
 use Rattle.choosing.specs.declared.Round.{Round}
 use Rattle.choosing.proofs.Rising.{without}
@@ -42,7 +42,7 @@ four-places days h =
     let one = take-suc days in
     rw (one 3 0 (omega arith), one 2 0 (omega arith), one 1 0 (omega arith), one 0 0 (omega arith))
 
-module _ {w : ℕ → ℕ} (days : List ℕ) {r : Round} (stood : Holds w (standing w days) r) where
+module _ {w : ℕ → ℕ} (days : List ℕ) {r : Round} (stood : HoldsDays w (standing w days) r) where
   pub none-enough : r .count < 4 → choice (chosen w days) ≡ record { enough = false; days = replicate 4 0 }
   unfolding chosen
   none-enough h = rw (used-fewer w (standing w days) (λ e. omega arith)) (few-chosen (standing w days) (omega arith))

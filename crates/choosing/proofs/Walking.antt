@@ -10,7 +10,7 @@ use lib.Seq.{take-all, append-snoc, length-take-le}
 use Rattle.numbers.specs.Lists.{sum}
 use Rattle.calendar.specs.Eligible.{ofDay}
 use Rattle.choosing.specs.Choosing.{round, standing}
-use Rattle.choosing.specs.Days.{daysFrom, Rising, none, next, Holds, Stood}
+use Rattle.choosing.specs.Days.{daysFrom, Rising, none, next, HoldsDays, Stood}
 use Rattle.choosing.specs.declared.Round.{Round}
 use Rattle.choosing.proofs.Rising.{rising-farther, rising-append, rising-filter}
 use Rattle.choosing.proofs.Flags.{further, further-next, further-end}
@@ -82,10 +82,10 @@ module _ {sums : List ℕ} {eligible : List Bool} {days : List ℕ} {count all k
     five-total : all ≡ sum (map (ofDay sums) days)
     five-total = rw all-five at (here .total)
 
-    pub five-held : Holds (ofDay sums) days (record { days = days; count = count; all = all })
+    pub five-held : HoldsDays (ofDay sums) days (record { days = days; count = count; all = all })
     five-held = record { places = here .places; count = omega arith; held = all-five; all = five-total }
 
-    module _ {left : Round} (holds : Holds (ofDay sums) (round (ofDay sums) days) left) where
+    module _ {left : Round} (holds : HoldsDays (ofDay sums) (round (ofDay sums) days) left) where
       same-five : standing (ofDay sums) (daysFrom 1 eligible) ≡ standing (ofDay sums) (days ++ further eligible k)
       same-five = rw all-five at (here .same)
 

@@ -33,7 +33,7 @@ pub data Rising : ℕ → ℕ → List ℕ → Type 0 where
   next : {near far k : ℕ} {days : List ℕ} → near < k → Rising k far days → Rising near far (k ∷ days)
 
 -- A round holds some days, at most five, and their window sums together.
-pub record Holds (w : ℕ → ℕ) (days : List ℕ) (r : Round) : Type 0 where
+pub record HoldsDays (w : ℕ → ℕ) (days : List ℕ) (r : Round) : Type 0 where
   pub places : length (r .days) ≡ roundDays
   pub count : r .count ≡ length days
   pub held : take (r .count) (r .days) ≡ days
@@ -47,15 +47,15 @@ roundOf days r = record { days = days; count = r .count; all = r .all }
 pub record Five (sums days : List ℕ) (r : CountAndSum) : Type 0 where
   pub windows : WindowSums sums
   pub rising : Rising 0 daysBack days
-  pub held : Holds (ofDay sums) days (roundOf days r)
+  pub held : HoldsDays (ofDay sums) days (roundOf days r)
 
 -- What a round leaves of its five days, `before`: those that it does not drop, in the first places of `after`.
 abbrev pub Kept : List ℕ → List ℕ → List ℕ → CountAndSum → Type 0
-Kept sums before after r = Holds (ofDay sums) (round (ofDay sums) before) (roundOf after r)
+Kept sums before after r = HoldsDays (ofDay sums) (round (ofDay sums) before) (roundOf after r)
 
 -- What the walk leaves of the eligible days, told by their flags.
 abbrev pub Stood : List ℕ → List Bool → Round → Type 0
-Stood sums eligible r = Holds (ofDay sums) (standing (ofDay sums) (daysFrom 1 eligible)) r
+Stood sums eligible r = HoldsDays (ofDay sums) (standing (ofDay sums) (daysFrom 1 eligible)) r
 
 -- the answer on the chosen days: four, or zeros where there are fewer
 unfoldable pub choice : List ℕ → Chosen

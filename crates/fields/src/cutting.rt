@@ -90,8 +90,8 @@ fn length_refusal(due: Due, tag: u8, size: usize) -> u32
         return refusals::ACCEPTED;
     }
     match due {
-        Due::Head => refusals::HEAD_LENGTH,
-        Due::Calendar => refusals::HEAD_LENGTH,
+        Due::Head => refusals::LENGTHS,
+        Due::Calendar => refusals::LENGTHS,
         Due::Point => refusals::POINT_LENGTH,
     }
 }

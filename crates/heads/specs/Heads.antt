@@ -99,23 +99,23 @@ abbrev pub contractRow : ℕ → List (Bool × ℕ)
 contractRow contract = (not (isContract contract), 6) ∷ []
 
 -- the least and the most points that a head may count
-pub record Counts : Type 0 where
+pub record CountRange : Type 0 where
   pub least : ℕ
   pub most : ℕ
 
 -- those of a head of 17 bytes, and of the contents of a state
-abbrev pub counts : Counts
+abbrev pub counts : CountRange
 counts = record { least = leastPoints; most = mostPoints }
 
-abbrev pub isCount : Counts → ℕ → Bool
+abbrev pub isCount : CountRange → ℕ → Bool
 isCount range count = leb (range .least) count && leb count (range .most)
 
 -- 7: 'count not 1 to 10,000'
-abbrev pub countRow : Counts → ℕ → List (Bool × ℕ)
+abbrev pub countRow : CountRange → ℕ → List (Bool × ℕ)
 countRow range count = (not (isCount range count), 7) ∷ []
 
 -- 2 to 8, on the values: these also test the contents of a state (9)
-abbrev pub contentTests : Counts → Head → List ℕ → List (Bool × ℕ)
+abbrev pub contentTests : CountRange → Head → List ℕ → List (Bool × ℕ)
 contentTests range h marks =
     dayRows h
     ++ slotRow (h .slot)

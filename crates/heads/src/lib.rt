@@ -203,10 +203,10 @@ pub fn opening_refusal(head: &[u8], calendar: &[u8]) -> u32
     ensures { λ r. ⌜ r ≡ openingRefusal (now (head .entry)) (now (calendar .entry)) ⌝ }
 {
     if head.len() != HEAD_LENGTH {
-        return refusals::HEAD_LENGTH;
+        return refusals::LENGTHS;
     }
     if calendar.len() != CALENDAR_LENGTH {
-        return refusals::HEAD_LENGTH;
+        return refusals::LENGTHS;
     }
     let marks = marks_of(calendar);
     content_refusal(head_of(head), marks)

@@ -78,10 +78,11 @@ readingsOf consumer value = drop consumerReadingsAt value
 readingsOf generator value = drop generatorReadingsAt value
 readingsOf unknown value = []
 
-abbrev pub readingCount : Kind → ℕ
-readingCount consumer = readings.readingCount
-readingCount generator = windowSlots
-readingCount unknown = 0
+-- how many these are
+abbrev pub readingsIn : Kind → ℕ
+readingsIn consumer = readings.readingCount
+readingsIn generator = windowSlots
+readingsIn unknown = 0
 
 -- a class or a baseline that is not allowed
 abbrev pub isUnfit : Kind → List ℕ → Bool
@@ -91,7 +92,7 @@ isUnfit unknown value = false
 
 -- a reading above the limit
 abbrev pub hasLarge : Kind → List ℕ → Bool
-hasLarge kind value = ltb (firstLarge (readingsOf kind value) (readingCount kind)) (readingCount kind)
+hasLarge kind value = ltb (firstLarge (readingsOf kind value) (readingsIn kind)) (readingsIn kind)
 
 -- THE ROWS that a point's tag and value alone decide: adding's table and that of writing are joined from them.
 

@@ -3,7 +3,7 @@
 pub const ACCEPTED: u32 = 0;
 
 // Opening.
-pub const HEAD_LENGTH: u32 = 1;
+pub const LENGTHS: u32 = 1;
 
 pub const NO_SUCH_DATE: u32 = 2;
 

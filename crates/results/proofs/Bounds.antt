@@ -22,17 +22,17 @@ use Rattle.baseline.proofs.Bounds.{baseline-bound}
 use Rattle.heads.specs.Limits.{mostLoss, mostBaseline, mostResult}
 use Rattle.heads.specs.Heads.{testDay}
 use Rattle.heads.proofs.Opening.{Opens}
-use Rattle.points.specs.Points.{Kind, consumer, generator, unknown, isUnknown, isUnfit, hasLarge, readingsOf, readingCount, baselineOf}
+use Rattle.points.specs.Points.{Kind, consumer, generator, unknown, isUnknown, isUnfit, hasLarge, readingsOf, readingsIn, baselineOf}
 use Rattle.results.proofs.SlotResults.{floor-one}
 use Rattle.results.specs.SlotResults.{Quotient, lossOf, consumerQuotient, generatorQuotient, quotients, rounded, results}
 use Rattle.heads.specs.declared.Head.{Head}
 use Rattle.numbers.proofs.Tests.{no-false, noneOf, none-run}
 
 -- 17 was not told
-pub all-tested : (kind : Kind) (value : List ℕ) → hasLarge kind value ≡ false → firstLarge (readingsOf kind value) (readingCount kind) ≡ readingCount kind
+pub all-tested : (kind : Kind) (value : List ℕ) → hasLarge kind value ≡ false → firstLarge (readingsOf kind value) (readingsIn kind) ≡ readingsIn kind
 all-tested kind value e =
     let readings = readingsOf kind value in
-    let n = readingCount kind in
+    let n = readingsIn kind in
     le-antisymm (first-bound readings n) (ltb-false (firstLarge readings n) n e)
 
 -- ---- slot results
