@@ -7,8 +7,7 @@ use lib.ListN.{getD, take, drop}
 use Rattle.numbers.specs.Words.{word32}
 use Rattle.numbers.specs.PointNumbers.{numberLength, isNumber}
 use Rattle.numbers.specs.Slots.{windowSlots}
-use Rattle.readings.specs.Readings.{firstLarge}
-use Rattle.readings.specs.Readings as readings
+use Rattle.readings.specs.Readings.{readingCount, firstLarge}
 use Rattle.heads.specs.Limits.{lowClass, extraHighClass, mostBaseline}
 
 -- a point: its tag and its value
@@ -80,7 +79,7 @@ readingsOf unknown value = []
 
 -- how many these are
 abbrev pub readingsIn : Kind → ℕ
-readingsIn consumer = readings.readingCount
+readingsIn consumer = readingCount
 readingsIn generator = windowSlots
 readingsIn unknown = 0
 
