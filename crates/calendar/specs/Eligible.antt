@@ -9,8 +9,14 @@ use Rattle.numbers.specs.Slots.{daysBack}
 use Rattle.calendar.specs.Dates.{isWeekend}
 
 -- 0 none; 1 national holiday; 2 earlier dispatch by the grid operator; 3 economic dispatch excluded on application
+abbrev pub noMark : ℕ
+noMark = 0
+
+abbrev pub mostMark : ℕ
+mostMark = 3
+
 abbrev pub isMark : ℕ → Bool
-isMark mark = leb mark 3
+isMark mark = leb mark mostMark
 
 -- 8: 'a mark above 3'
 abbrev pub markRow : List ℕ → List (Bool × ℕ)
@@ -22,7 +28,7 @@ ofDay values k = getD values (k - 1) 0
 
 -- 'It is eligible unless it is a Saturday or Sunday or its calendar mark is above 0.'
 abbrev pub isEligible : ℕ → List ℕ → ℕ → Bool
-isEligible test marks k = not (isWeekend (test - k)) && eqb (ofDay marks k) 0
+isEligible test marks k = not (isWeekend (test - k)) && eqb (ofDay marks k) noMark
 
 -- the eligible days of the thirty, nearest first
 abbrev pub eligibleDays : ℕ → List ℕ → List ℕ

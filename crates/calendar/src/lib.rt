@@ -9,7 +9,7 @@ ghost use Rattle.numbers.specs.Refusals.{firstOf};
 ghost use Rattle.numbers.specs.Slots.{daysBack};
 ghost use Rattle.calendar.specs.Dates.{firstDay, lastDay, IsMonth, isLeap, daysIn, commonDaysBefore, daysBefore, isDate};
 ghost use Rattle.calendar.specs.Dates.{dayCount, isWeekend};
-ghost use Rattle.calendar.specs.Eligible.{markRow, isEligible};
+ghost use Rattle.calendar.specs.Eligible.{noMark, markRow, isEligible};
 use numbers::DAYS_BACK;
 
 // The days before each month of a common year: the fixed table of document 01, 'Days'.
@@ -82,7 +82,8 @@ fn days_before(year: u16, month: u8) -> u32
 // The count of a date in days from 2000-01-01, a Saturday, as 0.
 pub fn day_count(year: u16, month: u8, day: u8) -> u32
     requires { ⌜ isDate year month day ≡ true ⌝ }
-    ensures { λ r. ⌜ (r ≡ dayCount year month day) × (firstDay ≤ r) × (r ≤ lastDay) ⌝ }
+    ensures counted { λ r. ⌜ r ≡ dayCount year month day ⌝ }
+    ensures within { λ r. ⌜ (firstDay ≤ r) × (r ≤ lastDay) ⌝ }
 {
     let years = (year - 2000) as u32;
     365 * years + (years + 3) / 4 + days_before(year, month) + (day - 1) as u32
@@ -122,9 +123,12 @@ pub fn marks_refusal(marks: &[u8]) -> u32
 
 // Whether a day is eligible, by its count and its mark.
 fn is_eligible(count: u32, mark: u8) -> bool
-    ensures { λ r. ⌜ r ≡ not (isWeekend count) && eqb mark 0 ⌝ }
+    ensures { λ r. ⌜ r ≡ not (isWeekend count) && eqb mark noMark ⌝ }
 {
-    !is_weekend(count) && mark == NO_MARK
+    match mark {
+        NO_MARK => !is_weekend(count),
+        _ => false,
+    }
 }
 
 // Which of the days 1 to 30 back are eligible; day k back stands at place k - 1.

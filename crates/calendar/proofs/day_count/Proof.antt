@@ -19,7 +19,7 @@ returns : tie.Need-returns
 unfolding dayCount
 returns c =
     let e = c .before .pre in
-    rw (c .days-before .ensures) (refl, count-least _ _ _ e, count-most _ _ _ e)
+    rw (c .days-before .ensures) (refl, (count-least _ _ _ e, count-most _ _ _ e))
 
 pub day-count-spec : {M : Type 1} → statement M
 day-count-spec =
