@@ -2,19 +2,19 @@
 use mathlib.Core.Path.{_≡_}
 use mathlib.Core.Bool.{Bool, true, false, cond}
 use mathlib.Core.List.{List}
-use Prim.Native.Nat.{ℕ, zero, suc, _*_, _≤_}
+use Prim.Native.Nat.{ℕ, zero, suc, _≤_}
 use native.Mathlib.Omega.{arith}
 use lib.ListN.{length, replicate}
 use Rattle.numbers.specs.Lists.{run}
 use Rattle.numbers.specs.Slots.{daysBack, daysUsed}
 use Rattle.numbers.proofs.Filling.{run-length}
 use Rattle.calendar.specs.Eligible.{ofDay, isEligible}
-use Rattle.readings.specs.Readings.{mostReading, readingCount, firstLarge, windowSums, lastWindow, earlierSlot, Back}
+use Rattle.readings.specs.Readings.{readingCount, firstLarge, windowSums, lastWindow, earlierSlot, Back}
 use Rattle.readings.proofs.Bounds.{slot-sums-bound, earlier-use-bound}
 use Rattle.choosing.specs.Choosing.{isFew}
 use Rattle.baseline.specs.Baseline.{chosenDays, daySums, baselineOn}
 use Rattle.choosing.specs.Days.{choice}
-use Rattle.baseline.specs.Consumers.{Sums}
+use Rattle.baseline.specs.Consumers.{Sums, mostConsumerBaseline}
 use Rattle.choosing.proofs.Flags.{flags-rising, flags-filter}
 use Rattle.choosing.proofs.Lowest.{chosen-few}
 
@@ -34,7 +34,7 @@ module _ (test : ℕ) (marks readings : List ℕ) (s : ℕ) where
       (chosen-few (ofDay (windowSums readings s)) (flags-rising (run eligible 1 daysBack) (omega (arith, run-length eligible 1 daysBack))))
 
   pub baseline-bound : firstLarge readings readingCount ≡ readingCount → s ≤ lastWindow
-      → (j : ℕ) → baselineOn readings (chosenDays test marks readings s) s j ≤ 48 * mostReading
+      → (j : ℕ) → baselineOn readings (chosenDays test marks readings s) s j ≤ mostConsumerBaseline
   baseline-bound fits h j =
       let sums = day-sums-bound readings fits (chosenDays test marks readings s) (chosen-days-few .0) (chosen-days-few .1) s h in
       omega (arith, sums .window j, earlier-use-bound readings fits s h)

@@ -2,11 +2,11 @@
 ghost use mathlib.Core.Path.{_≡_};
 ghost use Prim.Native.Nat.{_+_, _*_, _-_, _≤_};
 ghost use Rattle.numbers.specs.Lists.{run, sum};
-ghost use Rattle.numbers.specs.Slots.{daysBack, daysUsed, windowSlots};
+ghost use Rattle.numbers.specs.Slots.{daysUsed, windowSlots};
 ghost use Rattle.readings.specs.Readings.{mostReading, Back};
 ghost use Rattle.choosing.specs.Days.{AtMost, choice};
 ghost use Rattle.baseline.specs.Baseline.{chosenDays, daySums, baseline};
-ghost use Rattle.baseline.specs.Consumers.{Tested, Sums, consumerBaselines};
+ghost use Rattle.baseline.specs.Consumers.{Tested, TestedOn, Sums, consumerBaselines};
 use calendar::eligible_days;
 use choosing::Chosen;
 use choosing::choose;
@@ -28,8 +28,9 @@ pub struct Baselines {
 
 // The four days of a consumer, for the count of the test day.
 fn chosen_days(test: u32, marks: [u8; DAYS_BACK], readings: &[u8], slot: usize) -> Chosen
-    requires { ⌜ (daysBack ≤ test) × Tested (now readings) slot ⌝ }
-    ensures { λ r. ⌜ (r ≡ choice (chosenDays test marks (now (readings .entry)) slot)) × Back (r .days) ⌝ }
+    requires { ⌜ TestedOn test (now readings) slot ⌝ }
+    ensures chosen { λ r. ⌜ r ≡ choice (chosenDays test marks (now (readings .entry)) slot) ⌝ }
+    ensures back { λ r. ⌜ Back (r .days) ⌝ }
 {
     let eligible = eligible_days(test, marks);
     let sums = window_sums(readings, slot);
@@ -49,7 +50,8 @@ fn day_sums(readings: &[u8], days: [usize; DAYS_USED], slot: usize) -> [[u64; WI
 // Six sums together.
 fn sum_of_six(sums: [u64; WINDOW_SLOTS]) -> u64
     requires { ⌜ AtMost (daysUsed * mostReading) sums ⌝ }
-    ensures { λ r. ⌜ (r ≡ sum sums) × (r ≤ windowSlots * (daysUsed * mostReading)) ⌝ }
+    ensures total { λ r. ⌜ r ≡ sum sums ⌝ }
+    ensures most { λ r. ⌜ r ≤ windowSlots * (daysUsed * mostReading) ⌝ }
 {
     sums[0] + sums[1] + sums[2] + sums[3] + sums[4] + sums[5]
 }
@@ -92,7 +94,7 @@ pub fn consumer_baselines(
     readings: &[u8],
     slot: usize,
 ) -> Baselines
-    requires { ⌜ (daysBack ≤ test) × Tested (now readings) slot ⌝ }
+    requires { ⌜ TestedOn test (now readings) slot ⌝ }
     ensures { λ r. ⌜ r ≡ consumerBaselines test marks (now (readings .entry)) slot ⌝ }
 {
     let chosen = chosen_days(test, marks, readings, slot);

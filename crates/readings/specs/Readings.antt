@@ -1,9 +1,10 @@
 -- A consumer's readings (document 01, 'The test book' and 'Days'): 1,488 of four bytes, the test day's 48, then days 1 to 30 back.
+use mathlib.Core.Path.{_≡_}
 use mathlib.Core.Bool.{cond}
 use mathlib.Core.List.{List, map}
-use Prim.Native.Nat.{ℕ, zero, suc, _+_, _*_, _-_, _≤_}
+use Prim.Native.Nat.{ℕ, zero, suc, _+_, _*_, _-_, _<_, _≤_}
 use lib.Dec.{ltb}
-use lib.ListN.{drop, getD}
+use lib.ListN.{length, drop, getD}
 use Rattle.numbers.specs.Lists.{run, sum}
 use Rattle.numbers.specs.Slots.{slotsOfDay, daysBack, windowSlots}
 use Rattle.numbers.specs.Words.{word32}
@@ -66,3 +67,12 @@ earlierUse readings s = windowSum readings (earlierSlot s) 0
 -- days of which none is farther than thirty; past the last day stands 0
 abbrev pub Back : List ℕ → Type 0
 Back days = (i : ℕ) → getD days i 0 ≤ daysBack
+
+-- what contracts require: a consumer's readings with a slot of the day, and with the first slot of a window within the day
+pub record HasSlot (readings : List ℕ) (slot : ℕ) : Type 0 where
+  pub size : length readings ≡ readingsLength
+  pub within : slot < slotsOfDay
+
+pub record HasWindow (readings : List ℕ) (slot : ℕ) : Type 0 where
+  pub size : length readings ≡ readingsLength
+  pub last : slot ≤ lastWindow

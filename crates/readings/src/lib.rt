@@ -3,10 +3,10 @@ ghost use mathlib.Core.Path.{_≡_};
 ghost use Prim.Native.Nat.{_<_, _≤_, _+_, _-_, _*_, _/_, _%_};
 ghost use lib.ListN.{length, drop};
 ghost use Rattle.numbers.specs.Lists.{run, sum};
-ghost use Rattle.numbers.specs.Slots.{slotsOfDay, daysBack, windowSlots};
+ghost use Rattle.numbers.specs.Slots.{daysBack, windowSlots};
 ghost use Rattle.numbers.specs.Words.{word32};
-ghost use Rattle.readings.specs.Readings.{mostReading, readingLength, readingsLength, lastWindow, earlierBy, firstLarge, reading};
-ghost use Rattle.readings.specs.Readings.{windowSum, windowSums, slotSum, slotSums, earlierUse, Back};
+ghost use Rattle.readings.specs.Readings.{mostReading, readingLength, earlierBy, firstLarge, reading};
+ghost use Rattle.readings.specs.Readings.{windowSum, windowSums, slotSum, slotSums, earlierUse, Back, HasSlot, HasWindow};
 ghost use Rattle.readings.specs.Packed.{isSmall, Passes};
 use numbers::DAYS_BACK;
 use numbers::DAYS_USED;
@@ -40,8 +40,8 @@ fn first_large_from(readings: &[u8], start: usize, n: usize) -> usize
 
 // The four bytes of a reading, its high byte lowest. Where that is small, so is the reading.
 fn turned(a: u8, b: u8, c: u8, d: u8) -> u32
-    ensures { λ r. ⌜ r ≡ a + b * 256 + (c + d * 256) * 65536 ⌝ }
-    ensures { λ r. ⌜ (r % 256 < 32 → (a * 256 + b) * 65536 + (c * 256 + d) ≤ mostReading) ⌝ }
+    ensures turned { λ r. ⌜ r ≡ a + b * 256 + (c + d * 256) * 65536 ⌝ }
+    ensures small { λ r. ⌜ (r % 256 < 32 → (a * 256 + b) * 65536 + (c * 256 + d) ≤ mostReading) ⌝ }
 {
     (a as u32) + (b as u32) * 256 + ((c as u32) + (d as u32) * 256) * 65536
 }
@@ -62,7 +62,8 @@ fn one_packed(readings: &[u8], i: usize) -> u32
 
 // Two numbers side by side.
 fn beside(low: u32, high: u32) -> u64
-    ensures { λ r. ⌜ (r % 256 ≡ low % 256) × (r / 4294967296 % 256 ≡ high % 256) ⌝ }
+    ensures low_half { λ r. ⌜ r % 256 ≡ low % 256 ⌝ }
+    ensures high_half { λ r. ⌜ r / 4294967296 % 256 ≡ high % 256 ⌝ }
 {
     (low as u64) + (high as u64) * 4294967296
 }
@@ -146,7 +147,7 @@ fn six_from(readings: &[u8], first: usize) -> u64
 
 // The sum of a day's six readings from a slot on.
 fn window_sum(readings: &[u8], slot: usize, day: usize) -> u64
-    requires { ⌜ (length (now readings) ≡ readingsLength) × (slot ≤ lastWindow) × (day ≤ daysBack) ⌝ }
+    requires { ⌜ HasWindow (now readings) slot × (day ≤ daysBack) ⌝ }
     ensures { λ r. ⌜ r ≡ windowSum (now (readings .entry)) slot day ⌝ }
 {
     six_from(readings, SLOTS_OF_DAY * day + slot)
@@ -154,7 +155,7 @@ fn window_sum(readings: &[u8], slot: usize, day: usize) -> u64
 
 // The window sums of days 1 to 30 back.
 pub fn window_sums(readings: &[u8], slot: usize) -> [u64; DAYS_BACK]
-    requires { ⌜ (length (now readings) ≡ readingsLength) × (slot ≤ lastWindow) ⌝ }
+    requires { ⌜ HasWindow (now readings) slot ⌝ }
     ensures { λ r. ⌜ r ≡ windowSums (now (readings .entry)) slot ⌝ }
 {
     let mut sums = [0u64; DAYS_BACK];
@@ -168,7 +169,7 @@ pub fn window_sums(readings: &[u8], slot: usize) -> [u64; DAYS_BACK]
 
 // The test day's six earlier readings together.
 pub fn earlier_use(readings: &[u8], slot: usize) -> u64
-    requires { ⌜ (length (now readings) ≡ readingsLength) × (earlierBy ≤ slot) × (slot ≤ lastWindow) ⌝ }
+    requires { ⌜ HasWindow (now readings) slot × (earlierBy ≤ slot) ⌝ }
     ensures { λ r. ⌜ r ≡ earlierUse (now (readings .entry)) slot ⌝ }
 {
     window_sum(readings, slot - EARLIER_BY, 0)
@@ -176,7 +177,7 @@ pub fn earlier_use(readings: &[u8], slot: usize) -> u64
 
 // A day's reading in a slot.
 fn reading_of(readings: &[u8], day: usize, slot: usize) -> u32
-    requires { ⌜ (length (now readings) ≡ readingsLength) × (day ≤ daysBack) × (slot < slotsOfDay) ⌝ }
+    requires { ⌜ HasSlot (now readings) slot × (day ≤ daysBack) ⌝ }
     ensures { λ r. ⌜ r ≡ reading (now (readings .entry)) day slot ⌝ }
 {
     word32_at(readings, (SLOTS_OF_DAY * day + slot) * READING_LENGTH)
@@ -191,7 +192,7 @@ fn sum4(a: u32, b: u32, c: u32, d: u32) -> u64
 
 // A slot over four days.
 fn slot_sum(readings: &[u8], days: [usize; DAYS_USED], slot: usize) -> u64
-    requires { ⌜ (length (now readings) ≡ readingsLength) × (slot < slotsOfDay) × Back days ⌝ }
+    requires { ⌜ HasSlot (now readings) slot × Back days ⌝ }
     ensures { λ r. ⌜ r ≡ slotSum (now (readings .entry)) days slot ⌝ }
 {
     sum4(
@@ -204,7 +205,7 @@ fn slot_sum(readings: &[u8], days: [usize; DAYS_USED], slot: usize) -> u64
 
 // The six slots from one on, each over four days.
 pub fn slot_sums(readings: &[u8], days: [usize; DAYS_USED], slot: usize) -> [u64; WINDOW_SLOTS]
-    requires { ⌜ (length (now readings) ≡ readingsLength) × (slot ≤ lastWindow) × Back days ⌝ }
+    requires { ⌜ HasWindow (now readings) slot × Back days ⌝ }
     ensures { λ r. ⌜ r ≡ slotSums (now (readings .entry)) days slot ⌝ }
 {
     let mut sums = [0u64; WINDOW_SLOTS];

@@ -18,6 +18,7 @@ use Rattle.integers.proofs.Floors.{floor-low, floor-high}
 use Rattle.readings.specs.Readings.{mostReading, firstLarge}
 use Rattle.readings.proofs.Large.{none-large, first-bound}
 use Rattle.readings.proofs.Bounds.{reading-bound}
+use Rattle.baseline.specs.Consumers.{mostConsumerBaseline}
 use Rattle.baseline.proofs.Bounds.{baseline-bound}
 use Rattle.heads.specs.Limits.{mostLoss, mostBaseline, mostResult}
 use Rattle.heads.specs.Heads.{testDay}
@@ -46,7 +47,7 @@ pub none-beyond : (most : ℕ) (zs : List ℤ) → T (noneOf (isBeyond most) zs)
 none-beyond most zs t i = ltb-false _ _ (any-none (isBeyond most) (pos 0) (le-ltb most 0 (omega arith)) zs (no-false _ t) i)
 
 -- b the baseline in twenty-fourths, u the use: between −2,000,000,000 and 4,000,000,000
-consumer-small : (loss b u : ℕ) → loss ≤ mostLoss → b ≤ 48 * mostReading → u ≤ mostReading
+consumer-small : (loss b u : ℕ) → loss ≤ mostLoss → b ≤ mostConsumerBaseline → u ≤ mostReading
     → natAbs (rounded (consumerQuotient loss b u)) ≤ mostResult
 consumer-small loss b u hl hb hu =
     let q = consumerQuotient loss b u in

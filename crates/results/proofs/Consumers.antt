@@ -2,7 +2,7 @@
 use mathlib.Core.Path.{_≡_, sym, ap, _∙_}
 use mathlib.Core.Bool.{true, false, not}
 use mathlib.Core.List.{List}
-use Prim.Native.Nat.{ℕ, _+_, _*_, _-_, _≤_}
+use Prim.Native.Nat.{ℕ, _+_, _-_, _≤_}
 use native.Mathlib.Omega.{arith}
 use lib.Dec.{leb}
 use lib.IntN.{pos}
@@ -17,16 +17,16 @@ use Rattle.readings.proofs.Sums.{run-within}
 use Rattle.choosing.specs.Choosing.{isFew}
 use Rattle.baseline.specs.Baseline.{chosenDays, baselineOn}
 use Rattle.choosing.specs.Days.{AtMost}
-use Rattle.baseline.specs.Consumers.{Tested, baselinesOn}
+use Rattle.baseline.specs.Consumers.{Tested, mostConsumerBaseline, baselinesOn}
 use Rattle.baseline.specs.declared.Baselines.{Baselines}
 use Rattle.baseline.proofs.Bounds.{baseline-bound}
-use Rattle.heads.specs.Limits.{mostLoss}
+use Rattle.heads.specs.Limits.{mostLoss, lowClass, extraHighClass}
 use Rattle.heads.specs.Heads.{testDay, counts, contentTests, contentRefusal}
 use Rattle.heads.specs.declared.Head.{Head}
 use Rattle.heads.proofs.Opening.{both, opens}
-use Rattle.points.specs.Points.{consumer, classOf}
+use Rattle.points.specs.Points.{consumer, consumerReadingsAt, classOf}
 use Rattle.results.specs.SlotResults.{lossOf, daysOf, quotients}
-use Rattle.results.specs.Steps.{Passed, mostConsumerBaseline, consumerSlot, foundOf}
+use Rattle.results.specs.Steps.{Passed, consumerSlot, foundOf}
 use Rattle.results.proofs.Bounds.{all-tested}
 
 module _ {h : Head} {marks v : List ℕ} (p : Passed h marks consumer v) where
@@ -34,27 +34,26 @@ module _ {h : Head} {marks v : List ℕ} (p : Passed h marks consumer v) where
   unfolding contentRefusal
   dated = not-false _ (untold (contentTests counts h marks) tt (p .content) 2)
 
-  pub classed : (1 ≤ classOf v) × (classOf v ≤ 3)
-  classed = let t = both (leb 1 (classOf v)) (leb (classOf v) 3) (p .fit) in (leb-yes (t .0), leb-yes (t .1))
+  pub classed : (lowClass ≤ classOf v) × (classOf v ≤ extraHighClass)
+  classed = let t = both (leb lowClass (classOf v)) (leb (classOf v) extraHighClass) (p .fit) in (leb-yes (t .0), leb-yes (t .1))
 
   pub lossy : lossOf h v ≤ mostLoss
   lossy = opens h marks (p .content) .losses _
 
-  pub tested : Tested (drop 23 v) (h .slot)
+  pub tested : Tested (drop consumerReadingsAt v) (h .slot)
   tested =
       let o = opens h marks (p .content) in
       record {
-        size = simp length-drop (omega (arith, p .size));
+        window = record { size = simp length-drop (omega (arith, p .size)); last = omega (arith, o .last-slot) };
         small = all-tested consumer v (p .small);
         first = omega (arith, o .first-slot);
-        last = omega (arith, o .last-slot);
       }
 
   -- by the answer of its baseline, for the count of the test day and the readings that it was given
   module _ {test : ℕ} {answer : Baselines} (t : test ≡ testDay h)
-      (e : let readings = take (length v - 23) (drop 23 v) in answer ≡ baselinesOn (chosenDays test marks readings (h .slot)) readings (h .slot)) where
-    is-answer : answer ≡ baselinesOn (daysOf h marks v) (drop 23 v) (h .slot)
-    is-answer = e ∙ rw (t, rest-of v 23)
+      (e : let readings = take (length v - consumerReadingsAt) (drop consumerReadingsAt v) in answer ≡ baselinesOn (chosenDays test marks readings (h .slot)) readings (h .slot)) where
+    is-answer : answer ≡ baselinesOn (daysOf h marks v) (drop consumerReadingsAt v) (h .slot)
+    is-answer = e ∙ rw (t, rest-of v consumerReadingsAt)
 
     flag : answer .enough ≡ not (isFew (daysOf h marks v))
     unfolding baselinesOn
@@ -68,16 +67,16 @@ module _ {h : Head} {marks v : List ℕ} (p : Passed h marks consumer v) where
       four : isFew (daysOf h marks v) ≡ false
       four = not-true _ (sym flag ∙ f)
 
-      on-days : answer .slots ≡ run (baselineOn (drop 23 v) (daysOf h marks v) (h .slot)) 0 6
+      on-days : answer .slots ≡ run (baselineOn (drop consumerReadingsAt v) (daysOf h marks v) (h .slot)) 0 6
       unfolding baselinesOn
       on-days = ap (λ a. a .slots) is-answer ∙ rw four
 
       pub baselines-small : AtMost mostConsumerBaseline (answer .slots)
       baselines-small =
-          rw on-days (run-within (baselineOn (drop 23 v) (daysOf h marks v) (h .slot)) mostConsumerBaseline 0 6
-          λ j l. baseline-bound (testDay h) marks (drop 23 v) (h .slot) (tested .small) (tested .last) (0 + j))
+          rw on-days (run-within (baselineOn (drop consumerReadingsAt v) (daysOf h marks v) (h .slot)) mostConsumerBaseline 0 6
+          λ j l. baseline-bound (testDay h) marks (drop consumerReadingsAt v) (h .slot) (tested .small) (tested .window .last) (0 + j))
 
       pub consumer-results : foundOf h marks consumer v
-          ≡ record { enough = true; found = run (consumerSlot (lossOf h v) (answer .slots) (drop 23 v) (h .slot)) 0 6 }
+          ≡ record { enough = true; found = run (consumerSlot (lossOf h v) (answer .slots) (drop consumerReadingsAt v) (h .slot)) 0 6 }
       unfolding foundOf quotients run
       consumer-results = rw (on-days, four)

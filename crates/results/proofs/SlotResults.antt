@@ -11,7 +11,8 @@ use Rattle.numbers.specs.Lists.{run}
 use Rattle.numbers.specs.Words.{word32}
 use Rattle.integers.specs.Integers.{floorDiv}
 use Rattle.integers.proofs.Differences.{⊖s}
-use Rattle.points.specs.Points.{baselineOf}
+use Rattle.readings.specs.Readings.{readingLength}
+use Rattle.points.specs.Points.{generatorReadingsAt, baselineOf}
 use Rattle.results.specs.SlotResults.{generatorQuotient, generatorQuotients, rounded}
 
 -- multiplied first and subtracted then, or the other way round
@@ -33,9 +34,9 @@ word32-drop : (v : List ℕ) (n at : ℕ) → word32 (drop n v) at ≡ word32 v 
 word32-drop v n at = simp (getD-drop, add-assoc)
 
 abbrev pub generatorAt : List ℕ → ℕ → ℤ
-generatorAt v j = rounded (generatorQuotient (baselineOf v) (word32 v (26 + j * 4)))
+generatorAt v j = rounded (generatorQuotient (baselineOf v) (word32 v (generatorReadingsAt + j * readingLength)))
 
 pub generator-results : (v : List ℕ) → map rounded (generatorQuotients v) ≡ run (generatorAt v) 0 6
 generator-results v =
-    map-run rounded (λ j. generatorQuotient (baselineOf v) (word32 (drop 26 v) (j * 4))) 0 6
-    ∙ simp (word32-drop v 26)
+    map-run rounded (λ j. generatorQuotient (baselineOf v) (word32 (drop generatorReadingsAt v) (j * readingLength))) 0 6
+    ∙ simp (word32-drop v generatorReadingsAt)

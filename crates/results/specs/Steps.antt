@@ -2,11 +2,11 @@
 use mathlib.Core.Path.{_≡_}
 use mathlib.Core.Bool.{true, false, cond, not}
 use mathlib.Core.List.{List, map}
-use Prim.Native.Nat.{ℕ, _+_, _*_}
+use Prim.Native.Nat.{ℕ, _+_}
 use lib.IntN.{ℤ, pos}
 use lib.ListN.{length, getD, replicate}
 use Rattle.numbers.specs.Slots.{windowSlots}
-use Rattle.readings.specs.Readings.{mostReading, reading}
+use Rattle.readings.specs.Readings.{reading}
 use Rattle.heads.specs.Heads.{contentRefusal}
 use Rattle.heads.specs.declared.Head.{Head}
 use Rattle.points.specs.Points.{Kind, isUnknown, sizeOf, isUnfit, hasLarge}
@@ -20,10 +20,6 @@ pub record Passed (h : Head) (marks : List ℕ) (kind : Kind) (value : List ℕ)
   pub size : length value ≡ sizeOf kind
   pub fit : isUnfit kind value ≡ false
   pub small : hasLarge kind value ≡ false
-
--- twenty-fourths of a Wh, of a consumer's baseline: six times four readings and four times six
-abbrev pub mostConsumerBaseline : ℕ
-mostConsumerBaseline = 48 * mostReading
 
 -- slot j of a consumer, from its baseline in the six slots
 abbrev pub consumerSlot : ℕ → List ℕ → List ℕ → ℕ → ℕ → ℤ

@@ -15,8 +15,8 @@ use Rattle.baseline.proofs.chosen_days.Tie as tie
 choose-requires : tie.Need-choose-requires
 choose-requires c κs =
     let at-sums = c .before in
-    let small = at-sums .before .before .before .pre .1 .small in
-    record { thirty = search needs; small = rw (at-sums .window-sums .ensures) (window-sums-bound _ small _ (omega arith)) }
+    let tested = at-sums .before .before .before .pre .tested in
+    record { thirty = search needs; small = rw (at-sums .window-sums .ensures) (window-sums-bound _ (tested .small) _ (omega (arith, tested .window))) }
 
 returns : tie.Need-returns
 returns c =

@@ -19,11 +19,11 @@ returns c = rw (few-days _ _ (c .before .chosen-days .ensures .0) (not-true _ (c
 baselines-of-requires : tie.Need-baselines-of-requires
 baselines-of-requires c κs =
     let at-chosen = c .before .before .before .before in
-    let small = at-chosen .before .before .pre .1 .small in
+    let tested = at-chosen .before .before .pre .tested in
     let days = at-chosen .chosen-days in
     let four : length (days .result .days) ≡ daysUsed = search needs in (
-      rw (c .before .day-sums .ensures) (day-sums-bound _ small (days .result .days) (omega arith) (days .ensures .1) _ (omega arith)),
-      rw (c .earlier-use .ensures) (earlier-use-bound _ small _ (omega arith)),
+      rw (c .before .day-sums .ensures) (day-sums-bound _ (tested .small) (days .result .days) (omega arith) (days .ensures .1) _ (omega (arith, tested .window))),
+      rw (c .earlier-use .ensures) (earlier-use-bound _ (tested .small) _ (omega (arith, tested .window))),
     )
 
 returns-2 : tie.Need-returns-2

@@ -1,18 +1,18 @@
 -- `slot_sum` meets its contract. Assumes nothing.
-use mathlib.Core.Path.{_≡_, sym, _∙_}
-use Prim.Native.Nat.{ℕ, _≤_, _<_}
+use mathlib.Core.Path.{sym, _∙_}
+use Prim.Native.Nat.{ℕ, _≤_}
 use native.Mathlib.Omega.{arith}
-use lib.ListN.{length, getD}
+use lib.ListN.{getD}
 use borrow.Author.Needs.{needs}
-use Rattle.numbers.specs.Slots.{slotsOfDay, daysBack}
-use Rattle.readings.specs.Readings.{readingsLength, reading}
+use Rattle.numbers.specs.Slots.{daysBack}
+use Rattle.readings.specs.Readings.{reading, HasSlot}
 use Rattle.readings.proofs.Sums.{four}
 use Rattle.readings.proofs.slot_sum.Statement.{statement}
 use Rattle.readings.proofs.slot_sum.Tie as tie
 
 -- what the reading on the k-th day asks
-asks : (s : tie.Start) (k : ℕ) → (length (s .args .readings .now) ≡ readingsLength) × (getD (s .args .t2) k 0 ≤ daysBack) × (s .args .slot < slotsOfDay)
-asks s k = (s .pre .0, s .pre .2 k, s .pre .1)
+asks : (s : tie.Start) (k : ℕ) → HasSlot (s .args .readings .now) (s .args .slot) × (getD (s .args .t2) k 0 ≤ daysBack)
+asks s k = (s .pre .0, s .pre .1 k)
 
 returns : tie.Need-returns
 returns c =

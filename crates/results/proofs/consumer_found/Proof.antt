@@ -4,6 +4,7 @@ use native.Mathlib.Omega.{arith}
 use borrow.Author.Needs.{needs}
 use borrow.Author.Tests.{not-true, not-false}
 use Rattle.numbers.proofs.Parts.{rest-of}
+use Rattle.points.specs.Points.{consumerReadingsAt}
 use Rattle.results.proofs.Consumers.{dated, classed, lossy, tested, too-few, baselines-small, consumer-results}
 use Rattle.results.proofs.consumer_found.Statement.{statement}
 use Rattle.results.proofs.consumer_found.Tie as tie
@@ -12,7 +13,7 @@ consumer-baselines-requires : tie.Need-consumer-baselines-requires
 consumer-baselines-requires c κs =
     let at-count = c .before .before in
     let s = at-count .before .before in
-    (omega (arith, at-count .day-count .ensures .1), rw (rest-of (s .args .value .now) 23) (tested (s .pre)))
+    record { back = omega (arith, at-count .day-count .ensures .1); tested = rw (rest-of (s .args .value .now) consumerReadingsAt) (tested (s .pre)) }
 
 returns : tie.Need-returns
 returns c =
@@ -33,7 +34,7 @@ consumer-results-requires c κs =
     let s = at-count .before .before in (
       rw (c .before .loss-of .ensures) (lossy (s .pre)),
       baselines-small (s .pre) (at-count .day-count .ensures .0) (at-answer .consumer-baselines .ensures) (not-false _ (at-test .if1 .left)),
-      rw (rest-of (s .args .value .now) 23) (tested (s .pre)),
+      rw (rest-of (s .args .value .now) consumerReadingsAt) (tested (s .pre)),
     )
 
 returns-2 : tie.Need-returns-2
@@ -44,7 +45,7 @@ returns-2 c =
     let at-count = at-answer .before .before .before in
     let s = at-count .before .before in
     let found = consumer-results (s .pre) (at-count .day-count .ensures .0) (at-answer .consumer-baselines .ensures) (not-false _ (at-test .if1 .left)) in
-    rw (c .consumer-results .ensures, at-loss .loss-of .ensures, rest-of (s .args .value .now) 23) (sym found)
+    rw (c .consumer-results .ensures, at-loss .loss-of .ensures, rest-of (s .args .value .now) consumerReadingsAt) (sym found)
 
 pub consumer-found-spec : {M : Type 1} → statement M
 consumer-found-spec =

@@ -26,7 +26,8 @@ consumer-result-requires c κs =
     let at-loop = c .before .before in
     let s = at-loop .before .before in
     let j = at-loop .loop .j in
-    let used = reading-bound (s .args .readings .now) (s .pre .2 .small) 0 (s .args .slot + j) (omega arith) (omega arith) in
+    let tested = s .pre .2 in
+    let used = reading-bound (s .args .readings .now) (tested .small) 0 (s .args .slot + j) (omega arith) (omega (arith, tested .window)) in
     (s .pre .0, s .pre .1 j, rw (c .word32-at .ensures) (simp zero-add at used))
 
 loop-again : tie.Need-loop-again Inv-loop μ-loop
