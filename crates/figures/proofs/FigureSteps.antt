@@ -1,7 +1,7 @@
 -- The closing figures as the code works them out. Assumes nothing.
 use mathlib.Core.Path.{_≡_}
 use mathlib.Core.Bool.{true, false}
-use Prim.Native.Nat.{ℕ, _+_, _-_, _<_}
+use Prim.Native.Nat.{ℕ, _+_, _-_, _^_, _<_}
 use native.Mathlib.Omega.{arith}
 use lib.IntN.{ℤ, pos, negsuc, natAbs}
 use lib.Signed.{mag, ltZ}
@@ -20,6 +20,6 @@ shortfall-above contract (pos n) t = simp ⊖s (omega arith)
 shortfall-above contract (negsuc n) t = absurd (let e : _≡_ {A = ℕ} 0 1 = cc in omega arith)
 
 -- a settled figure is far from the ends of its type
-pub settled-small : (total : ℤ) → mag total < 9223372036854775808 → natAbs (floorDiv total 3_000) < 9000000000000000000
-settled-small (pos n) h = omega arith
-settled-small (negsuc n) h = omega arith
+pub settled-fits : (total : ℤ) → mag total < 2 ^ 63 → natAbs (floorDiv total 3_000) < 9000000000000000000
+settled-fits (pos n) h = omega arith
+settled-fits (negsuc n) h = omega arith

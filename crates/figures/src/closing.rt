@@ -4,6 +4,7 @@ ghost use Prim.Native.Nat.{ℕ, _≤_, _<_};
 ghost use lib.IntN.{pos, natAbs};
 ghost use lib.Dec.{leb};
 ghost use lib.ListN.{getD};
+ghost use Rattle.integers.specs.Integers.{mostSummand};
 ghost use Rattle.heads.specs.Limits.{leastBid};
 ghost use Rattle.figures.specs.Figures.{shortfallOf, figuresOf, noFigures};
 use crate::Figures;
@@ -50,7 +51,7 @@ fn is_bid(expected: u64) -> bool
 
 // The figures of a contract, slot totals and points taken.
 pub fn figures_of(contract: u32, totals: [i64; WINDOW_SLOTS], points: u32) -> Figures
-    requires { ⌜ ((i : ℕ) → natAbs (getD totals i (pos 0)) ≤ 1000000000000000) ⌝ }
+    requires { ⌜ ((i : ℕ) → natAbs (getD totals i (pos 0)) ≤ mostSummand) ⌝ }
     ensures { λ r. ⌜ r ≡ figuresOf contract totals points ⌝ }
 {
     let total = integers::total_of(totals);

@@ -1,6 +1,6 @@
 // Slot totals and the lent places.
 ghost use mathlib.Core.Path.{_≡_};
-ghost use Prim.Native.Nat.{ℕ, _<_, _+_};
+ghost use Prim.Native.Nat.{ℕ, _<_, _+_, _^_};
 ghost use lib.IntN.{pos, natAbs};
 ghost use lib.ListN.{length, getD};
 ghost use lib.Dec.{ltb};
@@ -11,7 +11,7 @@ use numbers::WINDOW_SLOTS;
 
 // Slot by slot.
 pub fn add_totals(totals: [i64; WINDOW_SLOTS], found: [i64; WINDOW_SLOTS]) -> [i64; WINDOW_SLOTS]
-    requires { ⌜ ((i : ℕ) → natAbs (getD totals i (pos 0)) + natAbs (getD found i (pos 0)) < 9223372036854775808) ⌝ }
+    requires { ⌜ ((i : ℕ) → natAbs (getD totals i (pos 0)) + natAbs (getD found i (pos 0)) < 2 ^ 63) ⌝ }
     ensures { λ r. ⌜ r ≡ plus totals found ⌝ }
 {
     let mut sums = totals;

@@ -2,7 +2,7 @@
 use mathlib.Core.Path.{_≡_, sym, _∙_}
 use mathlib.Core.Bool.{true, false, not}
 use mathlib.Core.List.{List}
-use Prim.Native.Nat.{ℕ, _+_, _<_, _≤_}
+use Prim.Native.Nat.{ℕ, _+_, _^_, _<_, _≤_}
 use native.Mathlib.Omega.{arith}
 use lib.IntN.{ℤ, pos, natAbs}
 use lib.ListN.{length, getD}
@@ -50,7 +50,7 @@ pub record Early (state : State) (tag : ℕ) (value : List ℕ) (places : ℕ) :
   pub numbered : numberLength ≤ length value
   -- points and sums stay within their types
   pub next : state .points + 1 < 4294967296
-  pub sums : (i : ℕ) → natAbs (getD (slotTotals state) i (pos 0)) + natAbs (getD (resultsOf state tag value) i (pos 0)) < 9223372036854775808
+  pub sums : (i : ℕ) → natAbs (getD (slotTotals state) i (pos 0)) + natAbs (getD (resultsOf state tag value) i (pos 0)) < 2 ^ 63
 
 module _ (state : State) (tag : ℕ) (value : List ℕ) (places : ℕ) where
   pub early-told : (earlyRefusal state tag value places ≡ 0 → ⊥) → addingRefusal state tag value places ≡ earlyRefusal state tag value places

@@ -90,8 +90,8 @@ pub fn close(state: State) -> Closed
 
 // Adding: a point's six results go to the lent places and into the slot totals.
 pub fn add(state: State, tag: u8, value: &[u8], places: &mut [i64]) -> Added
-    ensures { λ r. ⌜ r ≡ addOf state tag (now (value .entry)) (length (now (places .entry))) ⌝ }
-    ensures { λ r. ⌜ now (places .exit) ≡ placesOf state tag (now (value .entry)) (now (places .entry)) ⌝ }
+    ensures answer { λ r. ⌜ r ≡ addOf state tag (now (value .entry)) (length (now (places .entry))) ⌝ }
+    ensures lent { λ r. ⌜ now (places .exit) ≡ placesOf state tag (now (value .entry)) (now (places .entry)) ⌝ }
 {
     let refusal = adding::early_refusal(state, tag, value, places.len());
     if refusal != refusals::ACCEPTED {

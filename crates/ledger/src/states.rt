@@ -7,6 +7,9 @@ use numbers::DAYS_BACK;
 use numbers::NUMBER_LENGTH;
 use numbers::WINDOW_SLOTS;
 
+// The size that one slot result may have.
+const MOST_RESULT: u64 = 4000000000;
+
 // The state that an accepted opening gives.
 pub fn opened_state(head: Head, marks: [u8; DAYS_BACK]) -> State
     ensures { λ r. ⌜ r ≡ opened head marks ⌝ }
@@ -16,7 +19,7 @@ pub fn opened_state(head: Head, marks: [u8; DAYS_BACK]) -> State
         marks,
         points: 0,
         totals: [0; WINDOW_SLOTS],
-        last: [48; NUMBER_LENGTH],
+        last: [b'0'; NUMBER_LENGTH],
     }
 }
 
@@ -49,16 +52,13 @@ pub fn slot_totals(state: State) -> [i64; WINDOW_SLOTS]
     state.totals
 }
 
-// The size that one slot result may have.
-const MOST_RESULT: u64 = 4000000000;
-
 // Refusal 9: a state that no opening or adding can have given.
 pub fn is_unsound(state: State) -> bool
     ensures { λ r. ⌜ r ≡ isUnsound state ⌝ }
 {
     let head = state.head;
     let marks = state.marks;
-    if heads::content_refusal(head, marks) != 0 {
+    if heads::content_refusal(head, marks) != refusals::ACCEPTED {
         return true;
     }
     let points = state.points;

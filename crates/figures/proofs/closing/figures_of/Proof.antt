@@ -3,7 +3,7 @@ use mathlib.Core.Path.{_∙_}
 use mir.Syntax.{w64}
 use mir.Facts.{toZ-ofZ}
 use Rattle.figures.specs.Figures.{figuresOf}
-use Rattle.figures.proofs.FigureSteps.{settled-small}
+use Rattle.figures.proofs.FigureSteps.{settled-fits}
 use borrow.Author.Needs.{needs, sfits-of}
 use Rattle.figures.proofs.closing.figures_of.Statement.{statement}
 use Rattle.figures.proofs.closing.figures_of.Tie as tie
@@ -11,7 +11,7 @@ use Rattle.figures.proofs.closing.figures_of.Tie as tie
 shortfall-of-requires : tie.Need-shortfall-of-requires
 shortfall-of-requires c κs =
     let f = sfits-of {w = w64} {z = c .before .total-of .result} (c .before .total-of .ok) in
-    rw (toZ-ofZ (sfits-of (c .floor-div .ok)), c .floor-div .ensures, toZ-ofZ f) (settled-small (c .before .total-of .result) (f .sfits))
+    rw (toZ-ofZ (sfits-of (c .floor-div .ok)), c .floor-div .ensures, toZ-ofZ f) (settled-fits (c .before .total-of .result) (f .sfits))
 
 returns : tie.Need-returns
 unfolding figuresOf
