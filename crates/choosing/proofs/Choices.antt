@@ -59,12 +59,12 @@ module _ {w : ℕ → ℕ} (days : List ℕ) {r : Round} (stood : HoldsDays w (s
     five : r .days ≡ standing w days
     five = sym (take-all (r .count) (r .days) (omega arith)) ∙ stood .held
 
-    pub five-rising : {near far : ℕ} → Rising near far days → Rising near far (r .days)
-    five-rising q = rw five (standing-few w q .1)
+    pub standing-rising : {near far : ℕ} → Rising near far days → Rising near far (r .days)
+    standing-rising q = rw five (standing-few w q .1)
 
     pub lowest-goes : {near far : ℕ} (low : ℕ) → low ≡ lowest w (getD (r .days) 0 0) (drop 1 (r .days)) → Rising near far days
         → (length (without low (r .days)) ≡ 4) × (choice (chosen w days) ≡ record { enough = true; days = without low (r .days) })
     unfolding chosen
     lowest-goes low e q =
-        let n : length (without low (r .days)) ≡ 4 = rw e (four-left w (r .days) (stood .places) (five-rising q)) in
+        let n : length (without low (r .days)) ≡ 4 = rw e (four-left w (r .days) (stood .places) (standing-rising q)) in
         (n, ap (λ l. choice (used w l)) (sym five) ∙ rw (used-five w (r .days) (stood .places), ← e) (four-chosen (without low (r .days)) n))

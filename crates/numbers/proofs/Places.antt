@@ -10,8 +10,8 @@ use Rattle.numbers.specs.Placing.{atFront, placed, Placed}
 -- ---- at the front
 
 module _ (bytes out : List ℕ) where
-  pub front-length : length bytes ≤ length out → length (atFront bytes out) ≡ length out
-  front-length room = simp (length-append, length-drop) (omega arith)
+  pub at-front-length : length bytes ≤ length out → length (atFront bytes out) ≡ length out
+  at-front-length room = simp (length-append, length-drop) (omega arith)
 
   pub front-then : (more : List ℕ) → bytes ++ atFront more (drop (length bytes) out) ≡ atFront (bytes ++ more) out
   front-then more = rw (drop-drop, length-append, append-assoc)

@@ -9,7 +9,7 @@ use lib.Seq.{paste, take-all, take-length, take-at, drop-at, drop-drop}
 use borrow.Rule.Slice.PartMut.{putMid}
 use Rattle.numbers.specs.Words.{bytesOf}
 use Rattle.numbers.specs.Placing.{atFront}
-use Rattle.numbers.proofs.Places.{front-length, front-then}
+use Rattle.numbers.proofs.Places.{at-front-length, front-then}
 use Rattle.fields.specs.Fields.{written}
 use Rattle.numbers.specs.Refusals.{firstOf}
 use Rattle.numbers.proofs.Refusals.{told, passed}
@@ -70,7 +70,7 @@ written-length tag value = omega arith
 module _ (a b out x y : List ℕ) (n : ℕ) (size : length a ≡ n) (room : n + length b ≤ length out)
     (ex : x ≡ atFront a out) (ey : y ≡ atFront b (take (length x - n) (drop n x))) where
   pub first-length : length x ≡ length out
-  first-length = ap length ex ∙ front-length a out (omega arith)
+  first-length = ap length ex ∙ at-front-length a out (omega arith)
 
   behind-first : take (length x - n) (drop n x) ≡ drop (length a) out
   behind-first =

@@ -4,7 +4,7 @@ use native.Mathlib.Omega.{arith}
 use Rattle.numbers.specs.Slots.{daysBack}
 use Rattle.choosing.specs.Days.{daysFrom, Rising}
 use Rattle.choosing.proofs.Flags.{flags-rising}
-use Rattle.choosing.proofs.Choices.{none-enough, all-four, five-rising, lowest-goes}
+use Rattle.choosing.proofs.Choices.{none-enough, all-four, standing-rising, lowest-goes}
 use borrow.Author.Needs.{needs}
 use Rattle.choosing.proofs.choose.Statement.{statement}
 use Rattle.choosing.proofs.choose.Tie as tie
@@ -21,7 +21,7 @@ returns-2 c = let at-walk = c .before .before .before in sym (all-four _ (at-wal
 lowest-of-requires : tie.Need-lowest-of-requires
 lowest-of-requires c κs =
     let at-walk = c .before .before .before in
-    (at-walk .before .before .pre, five-rising _ (at-walk .walk .ensures) (omega arith) (eligible-rising at-walk))
+    (at-walk .before .before .pre, standing-rising _ (at-walk .walk .ensures) (omega arith) (eligible-rising at-walk))
 
 without-requires : tie.Need-without-requires
 without-requires c κs =
