@@ -30,7 +30,8 @@ pub struct Progress {
 
 // How many bytes are due.
 pub fn due(wait: Wait) -> usize
-    ensures { λ r. ⌜ (r ≡ dueOf wait) × (r ≤ consumerLength) ⌝ }
+    ensures { λ r. ⌜ r ≡ dueOf wait ⌝ }
+    ensures bound { λ r. ⌜ r ≤ consumerLength ⌝ }
 {
     match wait {
         Wait::Header(_) => 3,
