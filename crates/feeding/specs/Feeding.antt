@@ -11,7 +11,7 @@ use Rattle.heads.specs.Heads.{headLength}
 use Rattle.ledger.specs.States.{noState}
 use Rattle.ledger.specs.Operations.{openOf, addOf}
 use Rattle.ledger.specs.declared.State.{State}
-use Rattle.fields.specs.Fields.{tagAt, lengthDue, headerRefusal}
+use Rattle.fields.specs.Fields.{headerLength, tagAt, lengthDue, headerRefusal}
 use Rattle.book.specs.Reading.{readBook}
 use Rattle.book.specs.Endings.{bookEnding}
 use Rattle.fields.specs.declared.Due.{Due}
@@ -23,7 +23,7 @@ use Rattle.feeding.specs.declared.Progress.{Progress}
 
 -- how many bytes are due; at the end one byte more would be one too many
 abbrev pub dueOf : Wait → ℕ
-dueOf (Header due) = 3
+dueOf (Header due) = headerLength
 dueOf (Value due tag) = lengthDue due tag
 dueOf End = 1
 dueOf Nothing = 0

@@ -8,6 +8,7 @@ ghost use Rattle.feeding.specs.Feeding.{dueOf, isOver, startOf, mostFeed
 ghost use Rattle.feeding.specs.Feeding.{headerFed, pointOrEnd, going, got, valueFed, endFed, feedOf};
 ghost use Rattle.fields.specs.declared.Due.the-variants.{Head, Calendar, Point};
 use fields::Due;
+use fields::HEADER_LENGTH;
 use heads::HEAD_LENGTH;
 use ledger::State;
 use numbers::WINDOW_SLOTS;
@@ -34,7 +35,7 @@ pub fn due(wait: Wait) -> usize
     ensures bound { λ r. ⌜ r ≤ consumerLength ⌝ }
 {
     match wait {
-        Wait::Header(_) => 3,
+        Wait::Header(_) => HEADER_LENGTH,
         Wait::Value(kind, tag) => fields::cutting::length_due(kind, tag),
         Wait::End => 1,
         Wait::Nothing => 0,

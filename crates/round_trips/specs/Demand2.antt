@@ -14,7 +14,7 @@ use Rattle.points.specs.Points.{Point, kindOf, numberOf}
 use Rattle.results.specs.SlotResults.{lacksDays}
 use Rattle.ledger.specs.Operations.{closeOf}
 use Rattle.book.specs.Reading.{good, Contents, Book, readBook}
-use Rattle.fields.specs.Fields.{written}
+use Rattle.fields.specs.Fields.{headerLength, written}
 pub use Rattle.writing.specs.Writing.{headRoom}
 use Rattle.writing.specs.Writing.{writtenHead, headWritingRefusal, pointWritingRefusal}
 use Rattle.book.specs.Settling.{resultLength, settlingRefusal}
@@ -35,7 +35,7 @@ writtenBook b = writtenHead (b .head) (b .calendar) ++ gather (λ p. written (p 
 
 -- what a point's field takes
 abbrev pub roomFor : Point → ℕ
-roomFor p = 3 + length (p .value)
+roomFor p = headerLength + length (p .value)
 
 abbrev pub Each : (Point → Type 0) → List Point → Type 0
 Each P [] = Unit {0}
