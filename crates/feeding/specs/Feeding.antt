@@ -6,6 +6,7 @@ use mathlib.Core.List.{List}
 use Prim.Native.Nat.{ℕ, zero, suc, _+_, _*_, _<_, _≤_}
 use lib.Dec.{ltb, eqb}
 use lib.ListN.{length, take, drop, replicate}
+use Rattle.numbers.specs.Slots.{windowSlots}
 use Rattle.heads.specs.Limits.{mostPoints}
 use Rattle.heads.specs.Heads.{headLength}
 use Rattle.ledger.specs.States.{noState}
@@ -71,7 +72,7 @@ going refusal state p =
 abbrev pub got : Due → ℕ → Progress → List ℕ → Progress
 got Head tag p value = record { wait = Header Calendar; head = value; state = p .state; refusal = 0 }
 got Calendar tag p value = going (openOf (p .head) value .refusal) (openOf (p .head) value .state) p
-got Point tag p value = going (addOf (p .state) tag value 6 .refusal) (addOf (p .state) tag value 6 .state) p
+got Point tag p value = going (addOf (p .state) tag value windowSlots .refusal) (addOf (p .state) tag value windowSlots .state) p
 
 -- 31: value cut
 unfoldable pub valueFed : Due → ℕ → Progress → List ℕ → Progress

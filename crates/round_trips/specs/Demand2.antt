@@ -9,6 +9,7 @@ use lib.ListN.{length}
 use Rattle.numbers.specs.Lists.{gather}
 use Rattle.numbers.specs.Words.{Bytes}
 use Rattle.numbers.specs.PointNumbers.{below}
+use Rattle.numbers.specs.Slots.{windowSlots}
 use Rattle.heads.specs.Heads.{headOf}
 use Rattle.points.specs.Points.{Point, kindOf, numberOf}
 use Rattle.results.specs.SlotResults.{lacksDays}
@@ -51,7 +52,7 @@ pub record Writable (b : Contents) : Type 0 where
 
 -- the calls that a book stands for
 abbrev pub callsOf : List Point → List Call
-callsOf points = map (λ p. adding (p .tag) (p .value) 6) points ++ closing ∷ []
+callsOf points = map (λ p. adding (p .tag) (p .value) windowSlots) points ++ closing ∷ []
 
 -- 'reads back to the head, calendar and points put in'
 abbrev pub ReadsBack : Type 0
