@@ -63,15 +63,15 @@ points-wrote (p ∷ points) out t h =
 
 pub writing-calls : WritingCalls
 unfolding writtenBook bookOut bookAnswers
-writing-calls b w out h =
+writing-calls b head taken out h =
     let first = writtenHead (b .head) (b .calendar) in
-    let opens = head-opens (b .head) (b .calendar) (w .head) in
+    let opens = head-opens (b .head) (b .calendar) head in
     let lengths = opening-lengths (b .head) (b .calendar) opens in
     let size : length first ≡ headRoom =
     length-append (written 1 (b .head)) (written 2 (b .calendar)) ∙ omega (arith, written-length 1 (b .head), written-length 2 (b .calendar)) in
     let both = length-append first (writtenPoints (b .points)) in
     let wrote = head-written (b .head) (b .calendar) out opens (omega arith) in
-    let i = points-wrote (b .points) (drop (length first) out) (w .taken) (omega (arith, length-drop (length first) out)) in
+    let i = points-wrote (b .points) (drop (length first) out) taken (omega (arith, length-drop (length first) out)) in
     record {
       bytes = rw (← wrote .1) (then-bytes first out headRoom (b .points) size i);
       answers = ap₂ (λ told rest. told ∷ rest) (sym (wrote .0)) (rw (← wrote .1) (then-answers first out headRoom (b .points) size i));
