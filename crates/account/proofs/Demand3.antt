@@ -33,7 +33,7 @@ use Rattle.ledger.proofs.Taking.{takes}
 use Rattle.account.proofs.Divisors.{goes-by, wh-pos, wholes}
 use Rattle.ledger.proofs.Sound.{Sound, open-good, open-bad, opened-sound, add-good, add-bad, adding-sound, taken-sound, close-good, close-bad, closing-sound}
 use Rattle.calls.proofs.Nine.{nothing-taken, nothing-closed}
-use Rattle.calls.specs.Calls.{Call, adding, closing, refused, closed, replyOf, replies, program}
+use Rattle.calls.specs.Calls.{Call, adding, closing, closed, replyOf, replies, program}
 
 -- ---- what holds between the state, the account and the points taken, after any calls
 

@@ -5,7 +5,8 @@ use Prim.Native.Nat.{ℕ, suc, _+_, _-_, _<_, _≤_}
 use native.Mathlib.Omega.{arith}
 use borrow.Author.Tests.{eq-eqb, ne-eqb}
 use lib.ListN.{length, take, drop, length-drop}
-use lib.Seq.{drop-drop, take-all}
+use lib.Seq.{drop-drop}
+use Rattle.numbers.proofs.Parts.{rest-of}
 use Rattle.points.specs.Points.{Point}
 use Rattle.ledger.specs.Operations.{openOf, addOf}
 use Rattle.ledger.specs.declared.State.{State}
@@ -96,9 +97,6 @@ closed-reads book z = go (readBook book) refl (book-told book)
     go (good r) e t = (r, e)
 
 -- ---- over a book and a place in it, as the code cuts it
-
-pub rest-of : (book : List ℕ) (at : ℕ) → take (length book - at) (drop at book) ≡ drop at book
-rest-of book at = take-all (length book - at) (drop at book) (omega (arith, length-drop at book))
 
 -- a value that begins three bytes behind a place
 abbrev pub part : List ℕ → ℕ → ℕ → List ℕ

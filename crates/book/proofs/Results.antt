@@ -15,6 +15,7 @@ use Rattle.numbers.specs.Lists.{gather}
 use Rattle.integers.specs.Integers.{sumℤ, twosComplement}
 use Rattle.numbers.specs.Words.{bytesOf}
 use Rattle.figures.specs.Figures.{settledOf, shortfallOf, expectedOf, figuresOf}
+use Rattle.ledger.specs.States.{slotTotals}
 use Rattle.ledger.specs.Operations.{closeOf}
 use Rattle.figures.proofs.FigureSteps.{shortfall-above, shortfall-below}
 use Rattle.ledger.proofs.Sound.{close-refusal, close-good}
@@ -78,7 +79,7 @@ closed-small ending e contract total = go (ℕ-discrete (ending .refusal) 0)
     closes : closeOf (ending .state) .refusal ≡ 0 → mag (closeOf (ending .state) .figures .total) < 2 ^ 63 → SmallWords (closeOf (ending .state) .figures)
     closes e total =
         let is = close-good (ending .state) (sym (close-refusal (ending .state)) ∙ e) in
-        rw is (figures-small (ending .state .head .contract) (ending .state .totals) (ending .state .points) contract (rw is at total))
+        rw is (figures-small (ending .state .head .contract) (slotTotals (ending .state)) (ending .state .points) contract (rw is at total))
 
     go : Dec (ending .refusal ≡ 0) → SmallWords (closedAfter ending .figures)
     go (yes z) = rw z (closes (rw z at e) (rw z at total))

@@ -4,6 +4,7 @@ use mathlib.Core.List.{List, [], _∷_}
 use Prim.Native.Nat.{ℕ, zero, suc}
 use lib.Dec.{eqb}
 use lib.ListN.{length}
+use Rattle.numbers.specs.Slots.{windowSlots}
 use Rattle.points.specs.Points.{Point}
 use Rattle.ledger.specs.Operations.{openOf, addOf}
 use Rattle.ledger.specs.declared.State.{State}
@@ -44,7 +45,7 @@ openTest head calendar = unless (openOf head calendar .refusal) (openOf head cal
 
 -- the six places are the reader's own
 abbrev pub addPoint : State → Point → Reading State
-addPoint state p = unless (addOf state (p .tag) (p .value) 6 .refusal) (addOf state (p .tag) (p .value) 6 .state)
+addPoint state p = unless (addOf state (p .tag) (p .value) windowSlots .refusal) (addOf state (p .tag) (p .value) windowSlots .state)
 
 -- the points of a book, and the state after them
 pub record Points : Type 0 where

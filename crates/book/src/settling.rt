@@ -11,6 +11,7 @@ ghost use Rattle.book.specs.Results.{SmallWords, wordBytes};
 use crate::Ending;
 use fields::Due;
 use fields::Field;
+use fields::HEADER_LENGTH;
 use fields::cutting;
 use figures::Figures;
 use ledger::Closed;
@@ -42,7 +43,7 @@ fn read_points(opened: State, book: &[u8], start: usize) -> Ending
         let Field::Value(tag, size) = field else {
             return refused(cutting::refusal_of(field));
         };
-        let from = at + 3;
+        let from = at + HEADER_LENGTH;
         let end = from + size;
         let mut places = [0i64; WINDOW_SLOTS];
         let added = ledger::add(state, tag, &book[from..end], &mut places);
@@ -70,14 +71,14 @@ fn read(book: &[u8]) -> Ending
     let Field::Value(_, head_size) = head else {
         return refused(cutting::refusal_of(head));
     };
-    let head_end = 3 + head_size;
+    let head_end = HEADER_LENGTH + head_size;
     let calendar = cutting::cut(Due::Calendar, &book[head_end..]);
     let Field::Value(_, calendar_size) = calendar else {
         return refused(cutting::refusal_of(calendar));
     };
-    let from = head_end + 3;
+    let from = head_end + HEADER_LENGTH;
     let end = from + calendar_size;
-    let opened = ledger::open(&book[3..head_end], &book[from..end]);
+    let opened = ledger::open(&book[HEADER_LENGTH..head_end], &book[from..end]);
     if opened.refusal != refusals::ACCEPTED {
         return refused(opened.refusal);
     }

@@ -4,7 +4,7 @@ use mathlib.Core.Bool.{Bool, true, false, cond, not}
 use mathlib.Core.List.{List, [], _∷_}
 use Prim.Native.Nat.{ℕ, _<_}
 use native.Mathlib.Omega.{arith}
-use lib.Dec.{T, ltb, eqb}
+use lib.Dec.{T, eqb}
 use mir.Facts.{no-eqb}
 use Rattle.numbers.specs.Lists.{any}
 use Rattle.numbers.specs.Refusals.{firstOf}
@@ -12,7 +12,7 @@ use Rattle.numbers.proofs.Tests.{noneOf, none-cons}
 use Rattle.calendar.specs.Dates.{isDate}
 use Rattle.heads.specs.Heads.{headOf, contentRefusal}
 use Rattle.ledger.specs.States.{opened, noState, isUnsound}
-use Rattle.ledger.specs.Operations.{pointTests, pointRefusal, addingRefusal, addOf, closingRefusal, closeOf}
+use Rattle.ledger.specs.Operations.{pointTests, pointRefusal, addingRefusal, addOf, unreachedRow, closingRefusal, closeOf}
 use Rattle.ledger.specs.declared.State.{State}
 use Rattle.ledger.proofs.Sound.{open-refusal, open-good, add-refusal, close-refusal, Sound, opened-sound, adding-sound, add-sound, closing-sound}
 use Rattle.calls.specs.Calls.{Call, adding, closing, Reply, refused, accepted, closed, replyOf, replies, program, tellsNine, NeverNine}
@@ -50,7 +50,7 @@ module _ (state : State) (s : Sound state) where
 
   close-not-nine : T (not (eqb (closeOf state .refusal) 9))
   unfolding any
-  close-not-nine = rw (close-refusal, closing-sound state s) (never-told 9 ((ltb (state .points) (state .head .count), 20) ∷ []) (omega arith) tt)
+  close-not-nine = rw (close-refusal, closing-sound state s) (never-told 9 (unreachedRow (state .head) (state .points)) (omega arith) tt)
 
 -- ---- call by call
 

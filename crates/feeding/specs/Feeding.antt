@@ -6,12 +6,13 @@ use mathlib.Core.List.{List}
 use Prim.Native.Nat.{ℕ, zero, suc, _+_, _*_, _<_, _≤_}
 use lib.Dec.{ltb, eqb}
 use lib.ListN.{length, take, drop, replicate}
+use Rattle.numbers.specs.Slots.{windowSlots}
 use Rattle.heads.specs.Limits.{mostPoints}
 use Rattle.heads.specs.Heads.{headLength}
 use Rattle.ledger.specs.States.{noState}
 use Rattle.ledger.specs.Operations.{openOf, addOf}
 use Rattle.ledger.specs.declared.State.{State}
-use Rattle.fields.specs.Fields.{tagAt, lengthDue, headerRefusal}
+use Rattle.fields.specs.Fields.{headerLength, tagAt, lengthDue, headerRefusal}
 use Rattle.book.specs.Reading.{readBook}
 use Rattle.book.specs.Endings.{bookEnding}
 use Rattle.fields.specs.declared.Due.{Due}
@@ -23,7 +24,7 @@ use Rattle.feeding.specs.declared.Progress.{Progress}
 
 -- how many bytes are due; at the end one byte more would be one too many
 abbrev pub dueOf : Wait → ℕ
-dueOf (Header due) = 3
+dueOf (Header due) = headerLength
 dueOf (Value due tag) = lengthDue due tag
 dueOf End = 1
 dueOf Nothing = 0
@@ -71,7 +72,7 @@ going refusal state p =
 abbrev pub got : Due → ℕ → Progress → List ℕ → Progress
 got Head tag p value = record { wait = Header Calendar; head = value; state = p .state; refusal = 0 }
 got Calendar tag p value = going (openOf (p .head) value .refusal) (openOf (p .head) value .state) p
-got Point tag p value = going (addOf (p .state) tag value 6 .refusal) (addOf (p .state) tag value 6 .state) p
+got Point tag p value = going (addOf (p .state) tag value windowSlots .refusal) (addOf (p .state) tag value windowSlots .state) p
 
 -- 31: value cut
 unfoldable pub valueFed : Due → ℕ → Progress → List ℕ → Progress

@@ -2,12 +2,13 @@
 ghost use mathlib.Core.Path.{_≡_};
 ghost use Prim.Native.Nat.{_≤_};
 ghost use lib.ListN.{length};
-ghost use Rattle.heads.specs.Heads.{headLength};
+ghost use Rattle.heads.specs.Heads.{headTag, headLength, calendarTag};
 ghost use Rattle.points.specs.Points.{consumerLength};
 ghost use Rattle.feeding.specs.Feeding.{dueOf, isOver, startOf, mostFeedings, refusedAt};
 ghost use Rattle.feeding.specs.Feeding.{headerFed, pointOrEnd, going, got, valueFed, endFed, feedOf};
 ghost use Rattle.fields.specs.declared.Due.the-variants.{Head, Calendar, Point};
 use fields::Due;
+use fields::HEADER_LENGTH;
 use heads::HEAD_LENGTH;
 use ledger::State;
 use numbers::WINDOW_SLOTS;
@@ -30,10 +31,11 @@ pub struct Progress {
 
 // How many bytes are due.
 pub fn due(wait: Wait) -> usize
-    ensures { λ r. ⌜ (r ≡ dueOf wait) × (r ≤ consumerLength) ⌝ }
+    ensures { λ r. ⌜ r ≡ dueOf wait ⌝ }
+    ensures bound { λ r. ⌜ r ≤ consumerLength ⌝ }
 {
     match wait {
-        Wait::Header(_) => 3,
+        Wait::Header(_) => HEADER_LENGTH,
         Wait::Value(kind, tag) => fields::cutting::length_due(kind, tag),
         Wait::End => 1,
         Wait::Nothing => 0,
@@ -148,7 +150,7 @@ fn kept_head(value: &[u8]) -> [u8; HEAD_LENGTH]
 
 fn got_head(progress: Progress, value: &[u8]) -> Progress
     requires { ⌜ length (now value) ≡ headLength ⌝ }
-    ensures { λ r. ⌜ r ≡ got Head 1 progress (now (value .entry)) ⌝ }
+    ensures { λ r. ⌜ r ≡ got Head headTag progress (now (value .entry)) ⌝ }
 {
     let head = kept_head(value);
     let state = progress.state;
@@ -161,7 +163,7 @@ fn got_head(progress: Progress, value: &[u8]) -> Progress
 }
 
 fn got_calendar(progress: Progress, value: &[u8]) -> Progress
-    ensures { λ r. ⌜ r ≡ got Calendar 2 progress (now (value .entry)) ⌝ }
+    ensures { λ r. ⌜ r ≡ got Calendar calendarTag progress (now (value .entry)) ⌝ }
 {
     let head = progress.head;
     let opened = ledger::open(&head, value);

@@ -25,7 +25,8 @@ pub fn refusal_of(field: Field) -> u32
 
 // The length that a value must have.
 pub fn length_due(due: Due, tag: u8) -> usize
-    ensures { λ r. ⌜ (r ≡ lengthDue due tag) × (r ≤ consumerLength) ⌝ }
+    ensures { λ r. ⌜ r ≡ lengthDue due tag ⌝ }
+    ensures bound { λ r. ⌜ r ≤ consumerLength ⌝ }
 {
     match due {
         Due::Head => heads::HEAD_LENGTH,

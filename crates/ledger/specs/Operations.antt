@@ -41,9 +41,13 @@ reachedRow h points = (leb (h .count) points, 10) ∷ []
 abbrev pub placesRow : ℕ → List (Bool × ℕ)
 placesRow places = (not (eqb places windowSlots), 13) ∷ []
 
--- 14, and 15: 'not above the last number (the first point has none before it)'
+-- 15: 'not above the last number (the first point has none before it)'
+abbrev pub notAboveRow : ℕ → List ℕ → List ℕ → List (Bool × ℕ)
+notAboveRow points last number = (ltb 0 points && not (below last number), 15) ∷ []
+
+-- 14 and 15
 abbrev pub numberRows : ℕ → List ℕ → List ℕ → List (Bool × ℕ)
-numberRows points last number = numberRow number ++ (ltb 0 points && not (below last number), 15) ∷ []
+numberRows points last number = numberRow number ++ notAboveRow points last number
 
 -- 18: 'fewer than four days'
 abbrev pub daysRow : Head → List ℕ → ℕ → List ℕ → List (Bool × ℕ)
@@ -100,9 +104,15 @@ unfoldable pub placesOf : State → ℕ → List ℕ → List ℤ → List ℤ
 placesOf state tag value places =
     cond (eqb (addingRefusal state tag value (length places)) 0) (resultsOf state tag value) places
 
--- CLOSING. 9, and 20: 'count not reached'
+-- CLOSING
+
+-- 20: 'count not reached'
+abbrev pub unreachedRow : Head → ℕ → List (Bool × ℕ)
+unreachedRow h points = (ltb points (h .count), 20) ∷ []
+
+-- 9 and 20
 abbrev pub closingTests : State → List (Bool × ℕ)
-closingTests state = unsoundRow state ++ (ltb (state .points) (state .head .count), 20) ∷ []
+closingTests state = unsoundRow state ++ unreachedRow (state .head) (state .points)
 
 unfoldable pub closingRefusal : State → ℕ
 closingRefusal state = firstOf (closingTests state)

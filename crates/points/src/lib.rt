@@ -15,7 +15,7 @@ pub const CONSUMER: u8 = 3;
 
 pub const GENERATOR: u8 = 4;
 
-const CONSUMER_LENGTH: usize = 5975;
+pub const CONSUMER_LENGTH: usize = 5975;
 
 const GENERATOR_LENGTH: usize = 50;
 

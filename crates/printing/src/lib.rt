@@ -12,7 +12,8 @@ pub const TEXT_ROOM: usize = 640;
 
 // Puts the text at the front of the lent bytes, which have room for any, and answers how long it is.
 pub fn write_text(ending: Ending, out: &mut [u8; TEXT_ROOM]) -> usize
-    ensures { λ r. ⌜ (r ≡ length (textOf ending)) × (r ≤ textRoom) ⌝ }
+    ensures { λ r. ⌜ r ≡ length (textOf ending) ⌝ }
+    ensures bound { λ r. ⌜ r ≤ textRoom ⌝ }
     ensures { λ _. ⌜ now (out .exit) ≡ atFront (textOf ending) (now (out .entry)) ⌝ }
     ensures { λ r. ⌜ Counts r (now (out .exit)) ⌝ }
 {

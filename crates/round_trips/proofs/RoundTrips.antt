@@ -1,27 +1,26 @@
 -- DEMAND 2, its second half: both round trips. Assumes nothing.
 use mathlib.Core.Path.{_≡_, refl, sym, ap, subst, _∙_}
 use mathlib.Core.Bool.{Bool, true, false, not, _&&_}
-use mathlib.Core.List.{List, [], _∷_, _++_, append-assoc}
+use mathlib.Core.List.{List, [], _∷_, _++_, map, append-assoc}
 use Prim.Native.Nat.{ℕ, zero, suc, _+_, _<_}
 use native.Mathlib.Nat.{zero-add}
 use native.Mathlib.Numerals.{add-one}
-use native.Mathlib.Decide.{ℕ-discrete}
 use native.Mathlib.Omega.{arith}
 use borrow.Author.Tests.{eqb-true, not-false, lt-leb, lt-ltb, le-ltb}
 use lib.Dec.{T, ltb}
-use lib.ListN.{length}
+use lib.ListN.{length, getD, drop}
 use mir.Facts.{and-yes, yes-and}
 use Rattle.numbers.specs.Words.{Bytes}
 use Rattle.numbers.specs.Lists.{gather}
 use Rattle.numbers.specs.PointNumbers.{below}
 use Rattle.numbers.specs.Refusals.{firstOf}
-use Rattle.numbers.proofs.Refusals.{testOf, untold, clear-zero, told, passed}
+use Rattle.numbers.proofs.Refusals.{testOf, untold, clear-zero, passed, both-accepted}
 use Rattle.numbers.proofs.Tests.{no-false}
 use Rattle.heads.specs.Heads.{headOf, openingTests, openingRefusal}
 use Rattle.points.specs.Points.{Point, kindOf, numberOf}
 use Rattle.results.specs.SlotResults.{lacksDays}
 use Rattle.ledger.specs.States.{opened, taken}
-use Rattle.ledger.specs.Operations.{pointTests, pointRefusal, addingTests, addingRefusal, resultsOf, addOf}
+use Rattle.ledger.specs.Operations.{reachedRow, notAboveRow, placesRow, daysRow, pointTests, pointRefusal, addingTests, addingRefusal, resultsOf, addOf}
 use Rattle.heads.specs.declared.Head.{Head}
 use Rattle.ledger.specs.declared.State.{State}
 use Rattle.heads.proofs.Opening.{opening-lengths}
@@ -29,7 +28,7 @@ use Rattle.ledger.proofs.Sound.{open-refusal, open-good, add-refusal, add-good,
 use Rattle.fields.specs.Fields.{written}
 use Rattle.book.specs.Reading.{good, Points, before, readPoints, Book, bookOf, readBook}
 use Rattle.book.specs.Settling.{resultLength, settlingRefusal}
-use Rattle.writing.specs.Writing.{roomRow, headWritingRefusal, pointWritingTests, pointWritingRefusal}
+use Rattle.writing.specs.Writing.{roomRow, headWritingRefusal, valueWritingTests, pointWritingTests, pointWritingRefusal}
 use Rattle.round_trips.specs.Demand2.{risesAfter, rises, headRoom, roomFor, Each, ReadsBack, ReadInFull, WrittenGivesZero, ReadsWritable, WritesSame, writtenBook}
 use Rattle.fields.specs.declared.Due.the-variants as due
 use Rattle.round_trips.proofs.Cutting.{reads-field, was-written}
@@ -82,19 +81,27 @@ ShowsDays head marks p = T (not (lacksDays head marks (kindOf (p .tag)) (p .valu
 abbrev pub writtenPoints : List Point → List ℕ
 writtenPoints points = gather (λ p. written (p .tag) (p .value)) points
 
-pub writing-untold : (p : Point) → Takes p → (n : ℕ) → testOf n (pointWritingTests (p .tag) (p .value) (roomFor p)) ≡ false
+writing-untold : (p : Point) → Takes p → (n : ℕ) → testOf n (pointWritingTests (p .tag) (p .value) (roomFor p)) ≡ false
 unfolding pointWritingRefusal
 writing-untold p e = untold (pointWritingTests (p .tag) (p .value) (roomFor p)) tt e
 
+-- rows that stand in a table, each found there by its number, tell 0 where the table tells none of its numbers
+among : (rows table : List (Bool × ℕ)) → map (λ row. row .0) rows ≡ map (λ row. testOf (row .1) table) rows
+    → ((n : ℕ) → testOf n table ≡ false) → firstOf rows ≡ 0
+among [] table same c = refl
+among (row ∷ rows) table same c =
+    let here = ap (λ (tests : List Bool). getD tests 0 false) same ∙ c (row .1) in
+    rw here (among rows table (ap (drop 1) same) c)
+
 -- a point that is written is taken, where it follows and shows its days
-module _ (state : State) (s : Sound state) (p : Point) (takes : Takes p) (shows : ShowsDays (state .head) (state .marks) p) where
-  point-back : state .points < state .head .count → notAbove (state .points) (state .last) p ≡ false
-      → pointRefusal (state .head) (state .marks) (state .points) (state .last) (p .tag) (p .value) 6 ≡ 0
-  unfolding pointRefusal
-  point-back room above =
-      let c = writing-untold p takes in
-      clear-zero (pointTests (state .head) (state .marks) (state .points) (state .last) (p .tag) (p .value) 6)
-      (lt-leb _ _ room, (c 11, (c 12, (refl, (c 14, (above, (c 16, (c 17, (no-false _ shows, tt)))))))))
+module _ (h : Head) (marks last : List ℕ) (n : ℕ) (p : Point) where
+  point-back : Takes p → ShowsDays h marks p → n < h .count → notAbove n last p ≡ false → pointRefusal h marks n last (p .tag) (p .value) 6 ≡ 0
+  unfolding pointRefusal pointWritingRefusal
+  point-back takes shows room above =
+      let beside = reachedRow h n ++ placesRow 6 ++ notAboveRow n last (numberOf (p .value)) ++ daysRow h marks (p .tag) (p .value) in
+      let writing = pointWritingTests (p .tag) (p .value) (roomFor p) in
+      let clear = clear-zero beside (lt-leb _ _ room, (refl, (above, (no-false _ shows, tt)))) in
+      among (pointTests h marks n last (p .tag) (p .value) 6) (beside ++ writing) refl (untold (beside ++ writing) tt (passed beside writing tt clear ∙ takes))
 
 points-back : (points : List Point) (state : State) → Sound state → state .points + length points ≡ state .head .count
     → T (follows (state .points) (state .last) points) → Each Takes points → Each (ShowsDays (state .head) (state .marks)) points
@@ -103,7 +110,7 @@ unfolding readPoints gather taken
 points-back [] state s n f t d = (record { points = []; state = state }, refl, refl)
 points-back (p ∷ points) state s n f t d =
     let above = follows-above (state .points) (state .last) p points f in
-    let e = point-back state s p (t .0) (d .0) (omega arith) above in
+    let e = point-back (state .head) (state .marks) (state .last) (state .points) p (t .0) (d .0) (omega arith) above in
     let c = writing-untold p (t .0) in
     let next = taken state (resultsOf state (p .tag) (p .value)) (numberOf (p .value)) in
     let r = points-back points next (taken-sound state s (p .tag) (p .value) 6 e) (omega arith) (follows-next (state .points) (state .last) p points f) (t .1) (d .1) in (
@@ -131,9 +138,9 @@ adding-untold state p e = untold (addingTests state (p .tag) (p .value) 6) tt (s
 takes-back : (state : State) (p : Point) → addOf state (p .tag) (p .value) 6 .refusal ≡ 0 → Takes p
 unfolding pointWritingRefusal
 takes-back state p e =
-    let c = adding-untold state p e in
-    clear-zero (pointWritingTests (p .tag) (p .value) (roomFor p))
-    (c 11, (c 12, (c 14, (c 16, (c 17, (le-ltb (roomFor p) (3 + length (p .value)) (omega arith), tt))))))
+    let value = among (valueWritingTests (p .tag) (p .value)) (addingTests state (p .tag) (p .value) 6) refl (adding-untold state p e) in
+    passed (valueWritingTests (p .tag) (p .value)) (roomRow (roomFor p) (3 + length (p .value))) tt value
+    ∙ simp (le-ltb (roomFor p) (3 + length (p .value)) (omega arith))
 
 points-were : {n : ℕ} {state : State} {left : List ℕ} {x : Points} → Points-read n state left x → Were state n (x .points)
 unfolding taken
@@ -165,11 +172,7 @@ points-same {left} b (more {part} cut e read) =
 -- what `write_head` asks of a head is what opening asks, and room
 pub head-opens : (h c : List ℕ) → headWritingRefusal h c headRoom ≡ 0 → openingRefusal h c ≡ 0
 unfolding headWritingRefusal openingRefusal
-head-opens h c e = go (ℕ-discrete (firstOf (openingTests h c)) 0)
-  where
-    go : Dec (firstOf (openingTests h c) ≡ 0) → firstOf (openingTests h c) ≡ 0
-    go (yes z) = z
-    go (no n) = absurd (n (sym (told (openingTests h c) (roomRow headRoom headRoom) n) ∙ e))
+head-opens h c e = both-accepted (openingTests h c) (roomRow headRoom headRoom) tt e .0
 
 head-takes : (h c : List ℕ) → openingRefusal h c ≡ 0 → headWritingRefusal h c headRoom ≡ 0
 unfolding headWritingRefusal openingRefusal

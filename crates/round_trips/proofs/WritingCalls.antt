@@ -9,22 +9,22 @@ use lib.Seq.{take-at, drop-at}
 use Rattle.numbers.specs.Lists.{gather}
 use Rattle.numbers.specs.Placing.{atFront}
 use Rattle.numbers.proofs.Places.{front-then}
-use Rattle.numbers.proofs.Refusals.{clear-zero}
+use Rattle.numbers.proofs.Refusals.{passed, both-accepted}
 use Rattle.heads.proofs.Opening.{opening-lengths}
 use Rattle.points.specs.Points.{Point}
 use Rattle.fields.specs.Fields.{written}
-use Rattle.writing.specs.Writing.{writtenHead, pointWritingTests, pointWritingRefusal, pointWritingOut}
+use Rattle.writing.specs.Writing.{roomRow, writtenHead, valueWritingTests, pointWritingRefusal, pointWritingOut}
 use Rattle.writing.proofs.Storing.{head-written, written-length}
 use Rattle.round_trips.specs.Demand2.{headRoom, roomFor, writtenBook, Each}
 use Rattle.round_trips.specs.WritingCalls.{pointsOut, pointsAnswers, bookOut, bookAnswers, WritingCalls}
-use Rattle.round_trips.proofs.RoundTrips.{Takes, writtenPoints, writing-untold, head-opens}
+use Rattle.round_trips.proofs.RoundTrips.{Takes, writtenPoints, head-opens}
 
 -- a point that writing takes is taken where there is more room
 taken-with : (p : Point) (room : ℕ) → Takes p → roomFor p ≤ room → pointWritingRefusal (p .tag) (p .value) room ≡ 0
 unfolding pointWritingRefusal
 taken-with p room t h =
-    let c = writing-untold p t in
-    clear-zero (pointWritingTests (p .tag) (p .value) room) (c 11, (c 12, (c 14, (c 16, (c 17, (le-ltb room (roomFor p) h, tt))))))
+    let tests = valueWritingTests (p .tag) (p .value) in
+    passed tests (roomRow room (roomFor p)) tt (both-accepted tests (roomRow (roomFor p) (roomFor p)) tt t .0) ∙ simp (le-ltb room (roomFor p) h)
 
 point-out : (p : Point) (out : List ℕ) → Takes p → roomFor p ≤ length out
     → pointWritingOut (p .tag) (p .value) out ≡ atFront (written (p .tag) (p .value)) out
@@ -63,15 +63,15 @@ points-wrote (p ∷ points) out t h =
 
 pub writing-calls : WritingCalls
 unfolding writtenBook bookOut bookAnswers
-writing-calls b w out h =
+writing-calls b head taken out h =
     let first = writtenHead (b .head) (b .calendar) in
-    let opens = head-opens (b .head) (b .calendar) (w .head) in
+    let opens = head-opens (b .head) (b .calendar) head in
     let lengths = opening-lengths (b .head) (b .calendar) opens in
     let size : length first ≡ headRoom =
     length-append (written 1 (b .head)) (written 2 (b .calendar)) ∙ omega (arith, written-length 1 (b .head), written-length 2 (b .calendar)) in
     let both = length-append first (writtenPoints (b .points)) in
     let wrote = head-written (b .head) (b .calendar) out opens (omega arith) in
-    let i = points-wrote (b .points) (drop (length first) out) (w .taken) (omega (arith, length-drop (length first) out)) in
+    let i = points-wrote (b .points) (drop (length first) out) taken (omega (arith, length-drop (length first) out)) in
     record {
       bytes = rw (← wrote .1) (then-bytes first out headRoom (b .points) size i);
       answers = ap₂ (λ told rest. told ∷ rest) (sym (wrote .0)) (rw (← wrote .1) (then-answers first out headRoom (b .points) size i));

@@ -9,12 +9,13 @@ use lib.ListN.{length}
 use Rattle.numbers.specs.Lists.{gather}
 use Rattle.numbers.specs.Words.{Bytes}
 use Rattle.numbers.specs.PointNumbers.{below}
+use Rattle.numbers.specs.Slots.{windowSlots}
 use Rattle.heads.specs.Heads.{headOf}
 use Rattle.points.specs.Points.{Point, kindOf, numberOf}
 use Rattle.results.specs.SlotResults.{lacksDays}
 use Rattle.ledger.specs.Operations.{closeOf}
 use Rattle.book.specs.Reading.{good, Contents, Book, readBook}
-use Rattle.fields.specs.Fields.{written}
+use Rattle.fields.specs.Fields.{headerLength, written}
 pub use Rattle.writing.specs.Writing.{headRoom}
 use Rattle.writing.specs.Writing.{writtenHead, headWritingRefusal, pointWritingRefusal}
 use Rattle.book.specs.Settling.{resultLength, settlingRefusal}
@@ -35,7 +36,7 @@ writtenBook b = writtenHead (b .head) (b .calendar) ++ gather (λ p. written (p 
 
 -- what a point's field takes
 abbrev pub roomFor : Point → ℕ
-roomFor p = 3 + length (p .value)
+roomFor p = headerLength + length (p .value)
 
 abbrev pub Each : (Point → Type 0) → List Point → Type 0
 Each P [] = Unit {0}
@@ -51,7 +52,7 @@ pub record Writable (b : Contents) : Type 0 where
 
 -- the calls that a book stands for
 abbrev pub callsOf : List Point → List Call
-callsOf points = map (λ p. adding (p .tag) (p .value) 6) points ++ closing ∷ []
+callsOf points = map (λ p. adding (p .tag) (p .value) windowSlots) points ++ closing ∷ []
 
 -- 'reads back to the head, calendar and points put in'
 abbrev pub ReadsBack : Type 0

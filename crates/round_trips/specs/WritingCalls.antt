@@ -7,7 +7,7 @@ use Rattle.numbers.specs.Placing.{atFront}
 use Rattle.points.specs.Points.{Point}
 use Rattle.writing.specs.Writing.{headWritingRefusal, headWritingOut, pointWritingRefusal, pointWritingOut}
 use Rattle.book.specs.Reading.{Contents}
-use Rattle.round_trips.specs.Demand2.{headRoom, roomFor, writtenBook, Writable}
+use Rattle.round_trips.specs.Demand2.{headRoom, roomFor, Each, writtenBook}
 
 -- the lent bytes after `write_point` for each point: a call is lent what lies behind the last one's field
 unfoldable pub pointsOut : List Point → List ℕ → List ℕ
@@ -34,10 +34,15 @@ bookAnswers b out =
     headWritingRefusal (b .head) (b .calendar) (length out)
     ∷ pointsAnswers (b .points) (drop headRoom (headWritingOut (b .head) (b .calendar) out))
 
--- THE WRITING CALLS, where there is room, leave the written book followed by the old bytes, and each answers 0.
+-- THE WRITING CALLS, for a head and points that each of them takes, however many and in any order: where there is room, they leave the
+-- written book followed by the old bytes, and each answers 0.
 pub record WroteBook (b : Contents) (out : List ℕ) : Type 0 where
   pub bytes : bookOut b out ≡ atFront (writtenBook b) out
   pub answers : bookAnswers b out ≡ 0 ∷ map (λ p. 0) (b .points)
 
 abbrev pub WritingCalls : Type 0
-WritingCalls = (b : Contents) → Writable b → (out : List ℕ) → length (writtenBook b) ≤ length out → WroteBook b out
+WritingCalls = (b : Contents)
+    → headWritingRefusal (b .head) (b .calendar) headRoom ≡ 0
+    → Each (λ p. pointWritingRefusal (p .tag) (p .value) (roomFor p) ≡ 0) (b .points)
+    → (out : List ℕ)
+    → length (writtenBook b) ≤ length out → WroteBook b out

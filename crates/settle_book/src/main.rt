@@ -12,10 +12,8 @@ use feeding::Progress;
 use input::Got;
 use libc::STDERR_FILENO;
 use libc::STDOUT_FILENO;
+use points::CONSUMER_LENGTH;
 use printing::TEXT_ROOM;
-
-// As much as is due at a time, at most.
-const MOST_DUE: usize = 5975;
 
 // Fills the first n of the lent bytes.
 fn fill_front(buffer: &mut [u8], n: usize) -> Got
@@ -52,7 +50,8 @@ fn report(progress: Progress)
 }
 
 fn main() {
-    let mut buffer = [0u8; MOST_DUE];
+    // no more than the value of a consumer is due at a time
+    let mut buffer = [0u8; CONSUMER_LENGTH];
     let mut progress = feeding::start();
     let mut turns = feeding::most_feedings();
     while 0 < turns {

@@ -15,7 +15,7 @@ returns c =
     let is = k .close .ensures in
     let refused = ap (λ closed. refusedText (closed .refusal)) is ∙ text-refused (k .before .args .ending) (rw is at (c .before .before .before .if1 .taken)) in
     let p = named refused (c .put-line .ensures .0) in
-    ((front-end p, search needs), (p .bytes, front-counts p))
+    (front-end p, (search needs, (p .bytes, front-counts p)))
 
 returns-2 : tie.Need-returns-2
 returns-2 c =
@@ -26,7 +26,7 @@ returns-2 c =
     let e = sym (ap (λ closed. closed .refusal) is) ∙ accepted .if1 .left in
     let put = rw (c .before .before .before .slot-totals .ensures) at (c .put-figures .ensures) in
     let p = named (ap (λ closed. settledText (ending .state) (closed .figures)) is ∙ text-settled ending e) put in
-    ((front-end p, omega (arith, p .within)), (p .bytes, front-counts p))
+    (front-end p, (omega (arith, p .within), (p .bytes, front-counts p)))
 
 pub write-text-spec : {M : Type 1} → statement M
 write-text-spec =

@@ -4,6 +4,7 @@ use Prim.Native.Nat.{_-_, _≤_}
 use native.Mathlib.Omega.{arith}
 use lib.ListN.{length, take, length-take}
 use borrow.Author.Needs.{needs}
+use Rattle.points.specs.Points.{consumerLength}
 use Rattle.feeding.specs.Feeding.{dueOf}
 use Rattle.feeding.specs.Coming.{Coming}
 use Rattle.feeding.proofs.Coming.{comes-first, comes-over, comes-more, comes-last}
@@ -11,7 +12,7 @@ use Rattle.settle_book.proofs.main.Statement.{statement}
 use Rattle.settle_book.proofs.main.Tie as tie
 
 abbrev Inv-loop : tie.InvT-loop
-Inv-loop buffer₀ progress₀ turns₀ t7 buffer progress turns = (length buffer ≡ 5975) × Coming turns progress
+Inv-loop buffer₀ progress₀ turns₀ t7 buffer progress turns = (length buffer ≡ consumerLength) × Coming turns progress
 
 abbrev μ-loop : tie.MeasureT-loop
 μ-loop buffer₀ progress₀ turns₀ t7 buffer progress turns = turns
