@@ -3,11 +3,9 @@ ghost use mathlib.Core.Path.{_≡_};
 ghost use Prim.Native.Nat.{_+_, _*_, _≤_, _<_};
 ghost use lib.ListN.{length};
 ghost use Rattle.numbers.specs.PointNumbers.{numberLength};
-ghost use Rattle.heads.specs.Heads.{headLength};
 ghost use Rattle.points.specs.Points.{consumerLength, generatorLength};
-use heads::CALENDAR_LENGTH;
-use heads::HEAD_LENGTH;
 use ledger::State;
+use numbers::DAYS_BACK;
 use numbers::NUMBER_LENGTH;
 use numbers::WINDOW_SLOTS;
 use points::BASELINE_AT;
@@ -19,8 +17,8 @@ use points::GENERATOR_LENGTH;
 use points::GENERATOR_READINGS_AT;
 
 // A head of the year 2024: losses 700, 400 and 200, contract 1,000 kW.
-pub fn head(month: u8, day: u8, slot: u8, count: u16) -> [u8; HEAD_LENGTH]
-    ensures { λ r. ⌜ length r ≡ headLength ⌝ }
+pub fn head(month: u8, day: u8, slot: u8, count: u16) -> [u8; 17]
+    ensures { λ r. ⌜ length r ≡ 17 ⌝ }
 {
     let points = numbers::length_bytes(count);
     [
@@ -47,7 +45,7 @@ pub fn head(month: u8, day: u8, slot: u8, count: u16) -> [u8; HEAD_LENGTH]
 // The state of a test on 2024-08-07, s 26, with one point due and the same mark on all thirty days.
 pub fn opened(mark: u8) -> State {
     let head = head(8, 7, 26, 1);
-    let calendar = [mark; CALENDAR_LENGTH];
+    let calendar = [mark; DAYS_BACK];
     let opened = ledger::open(&head, &calendar);
     let state = opened.state;
     state
