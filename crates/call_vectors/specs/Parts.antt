@@ -1,11 +1,14 @@
 -- What the bytes of a call say: the table 'A state' of docs/VECTORS.md.
-use mathlib.Core.List.{List, [], _∷_}
+use mathlib.Core.List.{List}
 use Prim.Native.Nat.{ℕ, _*_}
 use lib.IntN.{ℤ}
-use lib.ListN.{getD, take, drop}
+use lib.ListN.{take, drop}
 use Rattle.numbers.specs.Lists.{run}
-use Rattle.numbers.specs.Words.{word16, word32}
+use Rattle.numbers.specs.Words.{word32}
+use Rattle.numbers.specs.Slots.{windowSlots}
+use Rattle.numbers.specs.PointNumbers.{numberLength}
 use Rattle.integers.specs.Integers.{signedWord}
+use Rattle.heads.specs.Heads.{calendarLength, countAt, headWith}
 use Rattle.heads.specs.declared.Head.{Head}
 use Rattle.ledger.specs.declared.State.{State}
 
@@ -13,22 +16,31 @@ use Rattle.ledger.specs.declared.State.{State}
 abbrev pub signedIn : List ℕ → ℕ → ℤ
 signedIn bytes i = signedWord bytes (i * 8)
 
+-- how many bytes a state has, and where the parts behind its head begin
+abbrev pub stateLength : ℕ
+stateLength = 123
+
+abbrev pub marksAt : ℕ
+marksAt = 19
+
+abbrev pub takenAt : ℕ
+takenAt = 49
+
+abbrev pub totalsAt : ℕ
+totalsAt = 53
+
+abbrev pub lastAt : ℕ
+lastAt = 101
+
+-- the head of a state, with a count of four bytes
 unfoldable pub headIn : List ℕ → Head
-headIn bytes = record {
-  year = word16 bytes 0;
-  month = getD bytes 2 0;
-  day = getD bytes 3 0;
-  slot = getD bytes 4 0;
-  losses = word16 bytes 5 ∷ word16 bytes 7 ∷ word16 bytes 9 ∷ [];
-  contract = word32 bytes 11;
-  count = word32 bytes 15;
-}
+headIn bytes = headWith (word32 bytes countAt) bytes
 
 unfoldable pub stateIn : List ℕ → State
 stateIn bytes = record {
   head = headIn bytes;
-  marks = take 30 (drop 19 bytes);
-  points = word32 bytes 49;
-  totals = run (signedIn (take 48 (drop 53 bytes))) 0 6;
-  last = take 22 (drop 101 bytes);
+  marks = take calendarLength (drop marksAt bytes);
+  points = word32 bytes takenAt;
+  totals = run (signedIn (take (windowSlots * 8) (drop totalsAt bytes))) 0 windowSlots;
+  last = take numberLength (drop lastAt bytes);
 }

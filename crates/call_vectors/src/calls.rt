@@ -4,6 +4,7 @@ ghost use mathlib.Core.Path.{_≡_};
 ghost use lib.ListN.{length};
 use crate::faults;
 use crate::parts;
+use crate::parts::STATE_LENGTH;
 use crate::text;
 use ledger::State;
 
@@ -40,7 +41,7 @@ fn answer_adding(state: State, tag: u8, value: &[u8], places: &mut [i64]) -> boo
 }
 
 pub fn adding() -> bool {
-    let mut bytes = [0u8; 123];
+    let mut bytes = [0u8; STATE_LENGTH];
     if !parts::read_bytes(&mut bytes) {
         return false;
     }
@@ -92,7 +93,7 @@ fn answer_closing(state: State) -> bool {
 }
 
 pub fn closing() -> bool {
-    let mut bytes = [0u8; 123];
+    let mut bytes = [0u8; STATE_LENGTH];
     if !parts::read_bytes(&mut bytes) {
         return false;
     }

@@ -3,10 +3,22 @@ ghost use mathlib.Core.Path.{_≡_};
 ghost use Prim.Native.Nat.{_*_, _≤_};
 ghost use lib.ListN.{length};
 ghost use Rattle.numbers.specs.Lists.{run};
-ghost use Rattle.call_vectors.specs.Parts.{signedIn, headIn, stateIn};
+ghost use Rattle.call_vectors.specs.Parts.{stateLength, signedIn, headIn, stateIn};
 use crate::faults;
 use heads::Head;
 use ledger::State;
+use numbers::WINDOW_SLOTS;
+
+// How many bytes a state has, and where the parts behind its head begin (specs/Parts).
+pub const STATE_LENGTH: usize = 123;
+
+const MARKS_AT: usize = 19;
+
+const TAKEN_AT: usize = 49;
+
+const TOTALS_AT: usize = 53;
+
+const LAST_AT: usize = 101;
 
 // A part with its length in front; a part that is not whole has no length.
 pub struct Part {
@@ -68,37 +80,23 @@ pub fn signed_list(bytes: &[u8], places: &mut [i64])
 
 // The head in a state's bytes; its count has four bytes.
 fn head_of(bytes: &[u8]) -> Head
-    requires { ⌜ length (now bytes) ≡ 123 ⌝ }
+    requires { ⌜ length (now bytes) ≡ stateLength ⌝ }
     ensures { λ r. ⌜ r ≡ headIn (now (bytes .entry)) ⌝ }
 {
-    let year = numbers::word16_at(bytes, 0);
-    let low = numbers::word16_at(bytes, 5);
-    let high = numbers::word16_at(bytes, 7);
-    let extra_high = numbers::word16_at(bytes, 9);
-    let contract = numbers::word32_at(bytes, 11);
-    let count = numbers::word32_at(bytes, 15);
-    Head {
-        year,
-        month: bytes[2],
-        day: bytes[3],
-        slot: bytes[4],
-        losses: [low, high, extra_high],
-        contract,
-        count,
-    }
+    heads::head_with(numbers::word32_at(bytes, heads::COUNT_AT), bytes)
 }
 
 // The state in a state's bytes, whatever they hold.
 pub fn state_of(bytes: &[u8]) -> State
-    requires { ⌜ length (now bytes) ≡ 123 ⌝ }
+    requires { ⌜ length (now bytes) ≡ stateLength ⌝ }
     ensures { λ r. ⌜ r ≡ stateIn (now (bytes .entry)) ⌝ }
 {
     let head = head_of(bytes);
-    let marks = heads::marks_of(&bytes[19..49]);
-    let points = numbers::word32_at(bytes, 49);
-    let mut totals = [0i64; 6];
-    signed_list(&bytes[53..101], &mut totals);
-    let last = points::number_of(&bytes[101..123]);
+    let marks = heads::marks_of(&bytes[MARKS_AT..TAKEN_AT]);
+    let points = numbers::word32_at(bytes, TAKEN_AT);
+    let mut totals = [0i64; WINDOW_SLOTS];
+    signed_list(&bytes[TOTALS_AT..LAST_AT], &mut totals);
+    let last = points::number_of(&bytes[LAST_AT..STATE_LENGTH]);
     State {
         head,
         marks,

@@ -3,6 +3,9 @@ use crate::faults;
 use figures::Figures;
 use ledger::State;
 use libc::STDOUT_FILENO;
+use numbers::DAYS_BACK;
+use numbers::NUMBER_LENGTH;
+use numbers::WINDOW_SLOTS;
 
 fn put(word: &[u8]) -> bool {
     io::write_all(STDOUT_FILENO, word)
@@ -65,15 +68,15 @@ pub fn signed_list(name: &[u8], list: &[i64]) -> bool {
 }
 
 // The arrays of a state, each lent by a function of its own, where its length is known.
-fn marks(list: [u8; 30]) -> bool {
+fn marks(list: [u8; DAYS_BACK]) -> bool {
     bytes(b" marks ", &list)
 }
 
-fn totals(list: [i64; 6]) -> bool {
+fn totals(list: [i64; WINDOW_SLOTS]) -> bool {
     signed_list(b" totals", &list)
 }
 
-fn last(list: [u8; 22]) -> bool {
+fn last(list: [u8; NUMBER_LENGTH]) -> bool {
     bytes(b" last ", &list)
 }
 
@@ -97,7 +100,7 @@ pub fn state(given: State) -> bool {
     let mark_list = given.marks;
     let calendar = marks(mark_list);
     let points = number(b" points ", given.points as u64);
-    let total_list = given.totals;
+    let total_list = ledger::states::slot_totals(given);
     let slots = totals(total_list);
     let last_number = given.last;
     date & slot & terms & calendar & points & slots & last(last_number)

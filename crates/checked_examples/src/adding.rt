@@ -2,10 +2,12 @@
 use crate::handed;
 use crate::text;
 use ledger::State;
+use numbers::WINDOW_SLOTS;
+use points::CONSUMER_LENGTH;
 
 // The refusal of an adding, or the six places where there is none.
 fn add(state: State, value: &[u8]) {
-    let mut places = [0i64; 6];
+    let mut places = [0i64; WINDOW_SLOTS];
     let added = ledger::add(state, points::CONSUMER, value, &mut places);
     let refusal = added.refusal;
     if refusal == refusals::ACCEPTED {
@@ -18,7 +20,7 @@ fn add(state: State, value: &[u8]) {
 // A line for a consumer on days that all have the mark.
 fn line(mark: u8, earlier: u32, used: u32, paper: &[u8]) {
     let state = handed::opened(mark);
-    let mut value = [0u8; 5975];
+    let mut value = [0u8; CONSUMER_LENGTH];
     handed::put_consumer(&mut value, earlier, used);
     add(state, &value);
     text::paper(paper);

@@ -3,9 +3,11 @@ use crate::handed;
 use crate::text;
 use figures::Figures;
 use ledger::State;
+use numbers::WINDOW_SLOTS;
+use points::GENERATOR_LENGTH;
 
 fn close(state: State, value: &[u8]) -> Figures {
-    let mut places = [0i64; 6];
+    let mut places = [0i64; WINDOW_SLOTS];
     let added = ledger::add(state, points::GENERATOR, value, &mut places);
     let after = added.state;
     let closed = ledger::close(after);
@@ -15,7 +17,7 @@ fn close(state: State, value: &[u8]) -> Figures {
 
 fn figures_of(baseline: u32, first: u32, others: u32) -> Figures {
     let state = handed::opened(0);
-    let mut value = [0u8; 50];
+    let mut value = [0u8; GENERATOR_LENGTH];
     handed::put_generator(&mut value, baseline, first, others);
     close(state, &value)
 }

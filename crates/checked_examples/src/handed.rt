@@ -2,7 +2,19 @@
 ghost use mathlib.Core.Path.{_≡_};
 ghost use Prim.Native.Nat.{_+_, _*_, _≤_, _<_};
 ghost use lib.ListN.{length};
+ghost use Rattle.numbers.specs.PointNumbers.{numberLength};
+ghost use Rattle.points.specs.Points.{consumerLength, generatorLength};
 use ledger::State;
+use numbers::DAYS_BACK;
+use numbers::NUMBER_LENGTH;
+use numbers::WINDOW_SLOTS;
+use points::BASELINE_AT;
+use points::CLASS_AT;
+use points::CONSUMER_LENGTH;
+use points::CONSUMER_READINGS;
+use points::CONSUMER_READINGS_AT;
+use points::GENERATOR_LENGTH;
+use points::GENERATOR_READINGS_AT;
 
 // A head of the year 2024: losses 700, 400 and 200, contract 1,000 kW.
 pub fn head(month: u8, day: u8, slot: u8, count: u16) -> [u8; 17]
@@ -33,7 +45,7 @@ pub fn head(month: u8, day: u8, slot: u8, count: u16) -> [u8; 17]
 // The state of a test on 2024-08-07, s 26, with one point due and the same mark on all thirty days.
 pub fn opened(mark: u8) -> State {
     let head = head(8, 7, 26, 1);
-    let calendar = [mark; 30];
+    let calendar = [mark; DAYS_BACK];
     let opened = ledger::open(&head, &calendar);
     let state = opened.state;
     state
@@ -41,10 +53,10 @@ pub fn opened(mark: u8) -> State {
 
 // The point number 1111111111111111111111.
 fn put_number(value: &mut [u8])
-    requires { ⌜ 22 ≤ length (now value) ⌝ }
+    requires { ⌜ numberLength ≤ length (now value) ⌝ }
 {
     let mut i: usize = 0;
-    while i < 22 {
+    while i < NUMBER_LENGTH {
         value[i] = b'1';
         i += 1;
     }
@@ -81,21 +93,25 @@ fn put_readings(part: &mut [u8], count: usize, reading: u32)
 // A high-voltage consumer: 1,200 in every slot of the test day and the thirty days back, except the
 // earlier slots 16 to 21 and the window slots 26 to 31 of the test day.
 pub fn put_consumer(value: &mut [u8], earlier: u32, used: u32)
-    requires { ⌜ length (now value) ≡ 5975 ⌝ }
+    requires { ⌜ length (now value) ≡ consumerLength ⌝ }
 {
     put_number(value);
-    put_byte(value, 22, 2);
-    put_readings(&mut value[23..5975], 1488, 1200);
-    put_readings(&mut value[87..111], 6, earlier);
-    put_readings(&mut value[127..151], 6, used);
+    put_byte(value, CLASS_AT, 2);
+    put_readings(
+        &mut value[CONSUMER_READINGS_AT..CONSUMER_LENGTH],
+        CONSUMER_READINGS,
+        1200,
+    );
+    put_readings(&mut value[87..111], WINDOW_SLOTS, earlier);
+    put_readings(&mut value[127..151], WINDOW_SLOTS, used);
 }
 
 // A generator: its baseline in kW, the first reading and the same reading in the five other slots.
 pub fn put_generator(value: &mut [u8], baseline: u32, first: u32, others: u32)
-    requires { ⌜ length (now value) ≡ 50 ⌝ }
+    requires { ⌜ length (now value) ≡ generatorLength ⌝ }
 {
     put_number(value);
-    put_word(value, 22, baseline);
-    put_word(value, 26, first);
-    put_readings(&mut value[30..50], 5, others);
+    put_word(value, BASELINE_AT, baseline);
+    put_word(value, GENERATOR_READINGS_AT, first);
+    put_readings(&mut value[30..GENERATOR_LENGTH], 5, others);
 }

@@ -1,11 +1,12 @@
 // Openings: A, and the highest count and slot.
 use crate::handed;
 use crate::text;
+use numbers::DAYS_BACK;
 
 // A line for the opening of a head with no marks.
 fn line(month: u8, day: u8, slot: u8, count: u16, paper: &[u8]) {
     let head = handed::head(month, day, slot, count);
-    let calendar = [0u8; 30];
+    let calendar = [0u8; DAYS_BACK];
     let opened = ledger::open(&head, &calendar);
     text::refusal(opened.refusal);
     text::paper(paper);

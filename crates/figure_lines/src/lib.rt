@@ -11,7 +11,7 @@ use numbers::WINDOW_SLOTS;
 fn put_dashed(number: u8, at: usize, out: &mut [u8]) -> usize
     requires { ⌜ at + 22 ≤ length (now out) ⌝ }
     ensures { λ r. ⌜ Placed (dashed number) at (now (out .entry)) r (now (out .exit)) ⌝ }
-    ensures { λ r. ⌜ r ≤ at + 22 ⌝ }
+    ensures bound { λ r. ⌜ r ≤ at + 22 ⌝ }
 {
     let dash = lines::put(b"-", at, out);
     lines::put_two_digits(number, dash, out)
@@ -20,7 +20,7 @@ fn put_dashed(number: u8, at: usize, out: &mut [u8]) -> usize
 fn put_date(head: Head, at: usize, out: &mut [u8]) -> usize
     requires { ⌜ at + 64 ≤ length (now out) ⌝ }
     ensures { λ r. ⌜ Placed (date head) at (now (out .entry)) r (now (out .exit)) ⌝ }
-    ensures { λ r. ⌜ r ≤ at + 64 ⌝ }
+    ensures bound { λ r. ⌜ r ≤ at + 64 ⌝ }
 {
     let year = lines::put_number(head.year as u64, at, out);
     let month = put_dashed(head.month, year, out);
@@ -30,7 +30,7 @@ fn put_date(head: Head, at: usize, out: &mut [u8]) -> usize
 fn put_date_line(head: Head, at: usize, out: &mut [u8]) -> usize
     requires { ⌜ at + 96 ≤ length (now out) ⌝ }
     ensures { λ r. ⌜ Placed (dateLine head) at (now (out .entry)) r (now (out .exit)) ⌝ }
-    ensures { λ r. ⌜ r ≤ at + 96 ⌝ }
+    ensures bound { λ r. ⌜ r ≤ at + 96 ⌝ }
 {
     let named = lines::put(b"date ", at, out);
     let dated = put_date(head, named, out);
@@ -40,7 +40,7 @@ fn put_date_line(head: Head, at: usize, out: &mut [u8]) -> usize
 fn put_slots(totals: [i64; WINDOW_SLOTS], at: usize, out: &mut [u8]) -> usize
     requires { ⌜ at + 288 ≤ length (now out) ⌝ }
     ensures { λ r. ⌜ Placed (slotLines 1 totals) at (now (out .entry)) r (now (out .exit)) ⌝ }
-    ensures { λ r. ⌜ r ≤ at + 288 ⌝ }
+    ensures bound { λ r. ⌜ r ≤ at + 288 ⌝ }
 {
     let mut end = at;
     let mut i: usize = 0;
@@ -56,7 +56,7 @@ fn put_slots(totals: [i64; WINDOW_SLOTS], at: usize, out: &mut [u8]) -> usize
 fn put_settled_lines(figures: Figures, at: usize, out: &mut [u8]) -> usize
     requires { ⌜ at + 89 ≤ length (now out) ⌝ }
     ensures { λ r. ⌜ Placed (settledLines figures) at (now (out .entry)) r (now (out .exit)) ⌝ }
-    ensures { λ r. ⌜ r ≤ at + 89 ⌝ }
+    ensures bound { λ r. ⌜ r ≤ at + 89 ⌝ }
 {
     let total = lines::put_signed_line(b"total ", figures.total, at, out);
     let settled = lines::put_signed_line(b"settled ", figures.settled, total, out);

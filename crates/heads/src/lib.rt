@@ -49,7 +49,7 @@ const EXTRA_HIGH_LOSS_AT: usize = 9;
 
 const CONTRACT_AT: usize = 11;
 
-const COUNT_AT: usize = 15;
+pub const COUNT_AT: usize = 15;
 
 // The values of a head (document 01, 'The test book').
 pub struct Head {
@@ -66,7 +66,7 @@ pub struct Head {
 }
 
 // The values of a head with a count of any length.
-fn head_with(count: u32, bytes: &[u8]) -> Head
+pub fn head_with(count: u32, bytes: &[u8]) -> Head
     requires { ⌜ countAt ≤ length (now bytes) ⌝ }
     ensures { λ r. ⌜ r ≡ headWith count (now (bytes .entry)) ⌝ }
 {

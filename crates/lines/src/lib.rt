@@ -24,7 +24,7 @@ pub fn put(text: &[u8], at: usize, out: &mut [u8]) -> usize
 pub fn put_number(number: u64, at: usize, out: &mut [u8]) -> usize
     requires { ⌜ at + mostDigits ≤ length (now out) ⌝ }
     ensures { λ r. ⌜ Placed (decimal number) at (now (out .entry)) r (now (out .exit)) ⌝ }
-    ensures { λ r. ⌜ r ≤ at + mostDigits ⌝ }
+    ensures bound { λ r. ⌜ r ≤ at + mostDigits ⌝ }
 {
     let mut digits = [0u8; MOST_DIGITS];
     let size = io::decimal(number, &mut digits);
@@ -35,7 +35,7 @@ pub fn put_number(number: u64, at: usize, out: &mut [u8]) -> usize
 pub fn put_two_digits(number: u8, at: usize, out: &mut [u8]) -> usize
     requires { ⌜ at + (1 + mostDigits) ≤ length (now out) ⌝ }
     ensures { λ r. ⌜ Placed (twoDigits number) at (now (out .entry)) r (now (out .exit)) ⌝ }
-    ensures { λ r. ⌜ r ≤ at + (1 + mostDigits) ⌝ }
+    ensures bound { λ r. ⌜ r ≤ at + (1 + mostDigits) ⌝ }
 {
     if number < 10 {
         let zero = put(b"0", at, out);
@@ -47,7 +47,7 @@ pub fn put_two_digits(number: u8, at: usize, out: &mut [u8]) -> usize
 pub fn put_signed(number: i64, at: usize, out: &mut [u8]) -> usize
     requires { ⌜ at + (1 + mostDigits) ≤ length (now out) ⌝ }
     ensures { λ r. ⌜ Placed (signed number) at (now (out .entry)) r (now (out .exit)) ⌝ }
-    ensures { λ r. ⌜ r ≤ at + (1 + mostDigits) ⌝ }
+    ensures bound { λ r. ⌜ r ≤ at + (1 + mostDigits) ⌝ }
 {
     let size = integers::size_of(number);
     if number < 0 {
@@ -61,7 +61,7 @@ pub fn put_signed(number: i64, at: usize, out: &mut [u8]) -> usize
 pub fn put_line(name: &[u8], number: u64, at: usize, out: &mut [u8]) -> usize
     requires { ⌜ at + (length (now name) + (mostDigits + 1)) ≤ length (now out) ⌝ }
     ensures { λ r. ⌜ Placed (lineOf (now (name .entry)) (decimal number)) at (now (out .entry)) r (now (out .exit)) ⌝ }
-    ensures { λ r. ⌜ r ≤ at + (length (now (name .entry)) + (mostDigits + 1)) ⌝ }
+    ensures bound { λ r. ⌜ r ≤ at + (length (now (name .entry)) + (mostDigits + 1)) ⌝ }
 {
     let named = put(name, at, out);
     let told = put_number(number, named, out);
@@ -71,7 +71,7 @@ pub fn put_line(name: &[u8], number: u64, at: usize, out: &mut [u8]) -> usize
 pub fn put_signed_line(name: &[u8], number: i64, at: usize, out: &mut [u8]) -> usize
     requires { ⌜ at + (length (now name) + (1 + mostDigits + 1)) ≤ length (now out) ⌝ }
     ensures { λ r. ⌜ Placed (lineOf (now (name .entry)) (signed number)) at (now (out .entry)) r (now (out .exit)) ⌝ }
-    ensures { λ r. ⌜ r ≤ at + (length (now (name .entry)) + (1 + mostDigits + 1)) ⌝ }
+    ensures bound { λ r. ⌜ r ≤ at + (length (now (name .entry)) + (1 + mostDigits + 1)) ⌝ }
 {
     let named = put(name, at, out);
     let signed = put_signed(number, named, out);

@@ -17,10 +17,10 @@ pub const GENERATOR: u8 = 4;
 
 pub const CONSUMER_LENGTH: usize = 5975;
 
-const GENERATOR_LENGTH: usize = 50;
+pub const GENERATOR_LENGTH: usize = 50;
 
 // The readings of a consumer.
-const CONSUMER_READINGS: usize = 1488;
+pub const CONSUMER_READINGS: usize = 1488;
 
 // Where the parts of a value behind its number begin.
 pub const CLASS_AT: usize = 22;
