@@ -2,9 +2,9 @@
 use mathlib.Core.Path.{_≡_, ap}
 use mathlib.Core.Bool.{true, false}
 use mathlib.Core.List.{List}
-use Prim.Native.Nat.{ℕ, _+_, _*_, _≤_}
+use Prim.Native.Nat.{ℕ, _+_, _*_, _≤_, _<_}
 use native.Mathlib.Omega.{arith}
-use lib.Dec.{T, ltb}
+use lib.Dec.{T, ltb, lt→ltb}
 use mir.Facts.{yes-and}
 use borrow.Author.Tests.{eqb-true, not-false, ne-eqb}
 use Rattle.numbers.specs.Refusals.{firstOf}
@@ -50,12 +50,12 @@ readings-within generator = omega arith
 readings-within mixedFiring = omega arith
 readings-within unknown = omega arith
 
--- the number of the row for an unfit value is not 0
-pub unfit-numbered : (kind : Kind) → T (ltb 0 (unfitNumber kind))
-unfit-numbered consumer = tt
-unfit-numbered generator = tt
-unfit-numbered mixedFiring = tt
-unfit-numbered unknown = tt
+-- the number of an unfit value is above those of the rows before it
+pub unfit-above : (kind : Kind) → 15 < unfitNumber kind
+unfit-above consumer = omega arith
+unfit-above generator = omega arith
+unfit-above mixedFiring = omega arith
+unfit-above unknown = omega arith
 
 -- ---- a point of the right form
 
@@ -72,7 +72,9 @@ module _ (tag size : ℕ) (form : firstOf (formRows tag size) ≡ 0) where
 module _ (tag : ℕ) (value : List ℕ) where
   -- no row of the value has the number 0
   pub values-numbered : T (numbered (valueRows tag value))
-  values-numbered = yes-and (ltb 0 (unfitNumber (kindOf tag))) true (unfit-numbered (kindOf tag)) tt
+  values-numbered =
+      let number = unfitNumber (kindOf tag) in
+      yes-and (ltb 0 number) true (lt→ltb 0 number (omega (arith, unfit-above (kindOf tag)))) tt
 
   module _ (accepted : firstOf (valueRows tag value) ≡ 0) where
     pub fits : isUnfit (kindOf tag) value ≡ false
