@@ -3,12 +3,13 @@ use crate::handed;
 use crate::text;
 use ledger::State;
 use numbers::WINDOW_SLOTS;
+use points::CONSUMER;
 use points::CONSUMER_LENGTH;
 
 // The refusal of an adding, or the six places where there is none.
-fn add(state: State, value: &[u8]) {
+pub fn add(state: State, tag: u8, value: &[u8]) {
     let mut places = [0i64; WINDOW_SLOTS];
-    let added = ledger::add(state, points::CONSUMER, value, &mut places);
+    let added = ledger::add(state, tag, value, &mut places);
     let refusal = added.refusal;
     if refusal == refusals::ACCEPTED {
         text::results(&places);
@@ -22,7 +23,7 @@ fn line(mark: u8, earlier: u32, used: u32, paper: &[u8]) {
     let state = handed::opened(mark);
     let mut value = [0u8; CONSUMER_LENGTH];
     handed::put_consumer(&mut value, earlier, used);
-    add(state, &value);
+    add(state, CONSUMER, &value);
     text::paper(paper);
 }
 

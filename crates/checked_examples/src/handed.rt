@@ -3,7 +3,7 @@ ghost use mathlib.Core.Path.{_≡_};
 ghost use Prim.Native.Nat.{_+_, _*_, _≤_, _<_};
 ghost use lib.ListN.{length};
 ghost use Rattle.numbers.specs.PointNumbers.{numberLength};
-ghost use Rattle.points.specs.Points.{consumerLength, generatorLength};
+ghost use Rattle.points.specs.Points.{consumerLength, generatorLength, mixedFiringLength};
 use ledger::State;
 use numbers::DAYS_BACK;
 use numbers::NUMBER_LENGTH;
@@ -15,6 +15,9 @@ use points::CONSUMER_READINGS;
 use points::CONSUMER_READINGS_AT;
 use points::GENERATOR_LENGTH;
 use points::GENERATOR_READINGS_AT;
+use points::MIXED_FIRING_LENGTH;
+use points::MIXED_FIRING_READINGS_AT;
+use points::SHARE_AT;
 
 // A head of the year 2024: losses 700, 400 and 200, contract 1,000 kW.
 pub fn head(month: u8, day: u8, slot: u8, count: u16) -> [u8; 17]
@@ -114,4 +117,16 @@ pub fn put_generator(value: &mut [u8], baseline: u32, first: u32, others: u32)
     put_word(value, BASELINE_AT, baseline);
     put_word(value, GENERATOR_READINGS_AT, first);
     put_readings(&mut value[30..GENERATOR_LENGTH], 5, others);
+}
+
+// A mixed-firing plant: its share in tenths of a percent, and the same readings in all six slots.
+pub fn put_mixed_firing(value: &mut [u8], share: u16, outside: u32, inside: u32)
+    requires { ⌜ length (now value) ≡ mixedFiringLength ⌝ }
+{
+    let bytes = numbers::length_bytes(share);
+    put_number(value);
+    put_byte(value, SHARE_AT, bytes[0]);
+    put_byte(value, SHARE_AT + 1, bytes[1]);
+    put_readings(&mut value[MIXED_FIRING_READINGS_AT..48], WINDOW_SLOTS, outside);
+    put_readings(&mut value[48..MIXED_FIRING_LENGTH], WINDOW_SLOTS, inside);
 }

@@ -1,9 +1,10 @@
-// Runs the checked examples of document 01 through the operations and prints each with the paper's value beside it.
+// Runs the checked examples of document 01, and some of CR 1, through the operations and prints each with the paper's value beside it.
 // Those with a star are proved too, of the definitions; here they are seen once in a running program.
 mod adding;
 mod closing;
 mod handed;
 mod opening;
+mod plants;
 mod text;
 
 // A book of no bytes.
@@ -19,6 +20,7 @@ fn empty_book() {
 fn main() {
     opening::examples();
     adding::examples();
+    plants::examples();
     closing::examples();
     empty_book();
 }
