@@ -29,6 +29,9 @@ use Rattle.heads.proofs.Opening.{both, Opens}
 goes : (d m parts : ℕ) → d * m ≡ parts → T (divides d (pos parts))
 goes d m parts e = rw (← e, mul-mod-right) tt
 
+share-goes : (h : Head) → T (divides 1_000 (pos (partsOfWh h)))
+share-goes h = goes 1_000 (24 * product h) (partsOfWh h) (omega arith)
+
 three : (a b c : ℕ) → let parts = pos (24_000 * (a * b * c)) in T (divides (24 * a) parts) × T (divides (24 * b) parts) × T (divides (24 * c) parts)
 three a b c = (
   goes (24 * a) (1_000 * (b * c)) _ (omega arith),
@@ -43,9 +46,6 @@ class-goes h (suc (suc zero)) l m = three (10_000 - getD (h .losses) 0 0) (10_00
 class-goes h (suc (suc (suc zero))) l m = three (10_000 - getD (h .losses) 0 0) (10_000 - getD (h .losses) 1 0) (10_000 - getD (h .losses) 2 0) .2
 class-goes h (suc (suc (suc (suc class)))) l m = absurd (omega arith)
 
-share-goes : (product : ℕ) → T (divides 1_000 (pos (24_000 * product)))
-share-goes product = goes 1_000 (24 * product) (24_000 * product) (omega arith)
-
 -- A line for each kind of point.
 pub goes-by : (h : Head) (marks : List ℕ) (kind : Kind) (value : List ℕ) → isUnfit kind value ≡ false
     → T (every (goesInto (partsOfWh h)) (quotients h marks kind value))
@@ -54,7 +54,7 @@ goes-by h marks consumer value fit =
     let t = both (leb 1 (classOf value)) (leb (classOf value) 3) fit in
     every-run (goesInto (partsOfWh h)) _ 0 6 λ j hj. class-goes h (classOf value) (leb-yes (t .0)) (leb-yes (t .1))
 goes-by h marks generator value fit = every-run (goesInto (partsOfWh h)) _ 0 6 λ j hj. divides-one (pos (partsOfWh h))
-goes-by h marks mixedFiring value fit = every-run (goesInto (partsOfWh h)) _ 0 6 λ j hj. share-goes (product h)
+goes-by h marks mixedFiring value fit = every-run (goesInto (partsOfWh h)) _ 0 6 λ j hj. share-goes h
 goes-by h marks unknown value fit = tt
 
 parts-pos : (a b c : ℕ) → 0 < a → 0 < b → 0 < c → 0 < 24_000 * (a * b * c)

@@ -63,10 +63,14 @@ consumer-small loss b u hl hb hu =
 generator-small : (kW metered : ℕ) → kW ≤ mostBaseline → metered ≤ mostReading → natAbs (rounded (generatorQuotient kW metered)) ≤ mostResult
 generator-small kW metered hk hm = rw (floor-one (pos metered -ℤ pos (500 * kW))) (simp ⊖s (omega arith))
 
+-- a share of something, or what it leaves, is at most the whole
+share-most : (whole share : ℕ) → share ≤ mostShare → (whole * share ≤ whole * 1_000) × (whole * (1_000 - share) ≤ whole * 1_000)
+share-most whole share h = (mul-le-mul-left whole h, mul-le-mul-left whole (omega arith))
+
 -- both readings at most, nothing of them biomass: 2,000,000,000
 mixed-firing-small : (share outside inside : ℕ) → share ≤ mostShare → outside ≤ mostReading → inside ≤ mostReading
     → natAbs (rounded (mixedFiringQuotient share outside inside)) ≤ mostResult
-mixed-firing-small share outside inside hs ho hi = let counted : 1_000 - share ≤ 1_000 = omega arith in omega (arith, mul-le-mul-left (outside + inside) counted)
+mixed-firing-small share outside inside hs ho hi = omega (arith, share-most (outside + inside) share hs)
 
 -- ---- by kind of point: a line for each
 
