@@ -61,7 +61,7 @@ module _ (h : Head) (marks : List ℕ) where
   unfolding noRemainder
   no-loss ps figures = ap (λ wholly. leZ (pos (h .contract)) (figures .settled) || wholly && divides 3_000 (roundedTotal h marks ps)) (wholes h marks ps)
 
-parts : (v : ℕ) → (3_000 * (24 * v) ≡ 72_000 * v) × (3 * (24 * v) ≡ 72 * v)
+parts : (v : ℕ) → (3_000 * (24_000 * v) ≡ 72_000_000 * v) × (3 * (24_000 * v) ≡ 72_000 * v)
 parts v = (omega arith, omega arith)
 
 module _ (state : State) (sum : ℤ) (ps : List Point) (a : Along state sum ps) where

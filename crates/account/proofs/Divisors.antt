@@ -1,4 +1,5 @@
--- The divisors of a point's quotients: they go into the parts of a Wh, and only those of a consumer can leave a remainder. Assumes nothing.
+-- The divisors of a point's quotients: they go into the parts of a Wh, and only those that demand 3 lists can leave a remainder. Assumes
+-- nothing.
 use mathlib.Core.Path.{_≡_, refl, sym, ap}
 use mathlib.Core.Bool.{false, not}
 use mathlib.Core.List.{List, [], _∷_}
@@ -14,9 +15,9 @@ use Rattle.numbers.specs.Words.{word32}
 use Rattle.integers.specs.Integers.{divides}
 use Rattle.numbers.proofs.Filling.{any-append}
 use Rattle.integers.proofs.Floors.{divides-one}
-use Rattle.points.specs.Points.{Point, Kind, consumer, generator, unknown, kindOf, classOf, isUnfit, baselineOf, readingsOf}
+use Rattle.points.specs.Points.{Point, Kind, consumer, generator, mixedFiring, unknown, kindOf, classOf, isUnfit, baselineOf, readingsOf}
 use Rattle.results.specs.SlotResults.{generatorQuotient, quotients}
-use Rattle.account.specs.Account.{partsOfWh}
+use Rattle.account.specs.Account.{product, partsOfWh}
 use Rattle.account.specs.Demand3.{divisionsBy, divisions, allQuotients}
 use Rattle.heads.specs.declared.Head.{Head}
 use Rattle.numbers.proofs.Tests.{no-false, every, every-run}
@@ -28,8 +29,12 @@ use Rattle.heads.proofs.Opening.{both, Opens}
 goes : (d m parts : ℕ) → d * m ≡ parts → T (divides d (pos parts))
 goes d m parts e = rw (← e, mul-mod-right) tt
 
-three : (a b c : ℕ) → let parts = pos (24 * (a * b * c)) in T (divides (24 * a) parts) × T (divides (24 * b) parts) × T (divides (24 * c) parts)
-three a b c = (goes (24 * a) (b * c) _ (omega arith), goes (24 * b) (a * c) _ (omega arith), goes (24 * c) (a * b) _ (omega arith))
+three : (a b c : ℕ) → let parts = pos (24_000 * (a * b * c)) in T (divides (24 * a) parts) × T (divides (24 * b) parts) × T (divides (24 * c) parts)
+three a b c = (
+  goes (24 * a) (1_000 * (b * c)) _ (omega arith),
+  goes (24 * b) (1_000 * (a * c)) _ (omega arith),
+  goes (24 * c) (1_000 * (a * b)) _ (omega arith),
+)
 
 class-goes : (h : Head) (class : ℕ) → 1 ≤ class → class ≤ 3 → T (divides (24 * (10_000 - getD (h .losses) (class - 1) 0)) (pos (partsOfWh h)))
 class-goes h zero l m = absurd (omega arith)
@@ -37,6 +42,9 @@ class-goes h (suc zero) l m = three (10_000 - getD (h .losses) 0 0) (10_000 - ge
 class-goes h (suc (suc zero)) l m = three (10_000 - getD (h .losses) 0 0) (10_000 - getD (h .losses) 1 0) (10_000 - getD (h .losses) 2 0) .1
 class-goes h (suc (suc (suc zero))) l m = three (10_000 - getD (h .losses) 0 0) (10_000 - getD (h .losses) 1 0) (10_000 - getD (h .losses) 2 0) .2
 class-goes h (suc (suc (suc (suc class)))) l m = absurd (omega arith)
+
+share-goes : (product : ℕ) → T (divides 1_000 (pos (24_000 * product)))
+share-goes product = goes 1_000 (24 * product) (24_000 * product) (omega arith)
 
 -- A line for each kind of point.
 pub goes-by : (h : Head) (marks : List ℕ) (kind : Kind) (value : List ℕ) → isUnfit kind value ≡ false
@@ -46,9 +54,10 @@ goes-by h marks consumer value fit =
     let t = both (leb 1 (classOf value)) (leb (classOf value) 3) fit in
     every-run (goesInto (partsOfWh h)) _ 0 6 λ j hj. class-goes h (classOf value) (leb-yes (t .0)) (leb-yes (t .1))
 goes-by h marks generator value fit = every-run (goesInto (partsOfWh h)) _ 0 6 λ j hj. divides-one (pos (partsOfWh h))
+goes-by h marks mixedFiring value fit = every-run (goesInto (partsOfWh h)) _ 0 6 λ j hj. share-goes (product h)
 goes-by h marks unknown value fit = tt
 
-parts-pos : (a b c : ℕ) → 0 < a → 0 < b → 0 < c → 0 < 24 * (a * b * c)
+parts-pos : (a b c : ℕ) → 0 < a → 0 < b → 0 < c → 0 < 24_000 * (a * b * c)
 parts-pos a b c p q r = omega (arith, mul-pos (mul-pos p q) r)
 
 pub wh-pos : (h : Head) → Opens h → 0 < partsOfWh h
@@ -65,6 +74,7 @@ unlisted : (h : Head) (marks : List ℕ) (kind : Kind) (value : List ℕ)
 unfolding quotients any
 unlisted h marks consumer value = refl
 unlisted h marks generator value = sym (no-false _ (every-run whole _ 0 6 λ j hj. generator-whole (baselineOf value) (word32 (readingsOf generator value) ((0 + j) * 4))))
+unlisted h marks mixedFiring value = refl
 unlisted h marks unknown value = refl
 
 unlisted-all : (h : Head) (marks : List ℕ) (points : List Point)

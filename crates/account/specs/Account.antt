@@ -24,19 +24,20 @@ pub record Account : Type 0 where
   pub last : List ℕ
   pub sum : ℤ
 
--- The exact figures are counted in equal parts of a kW: '72,000 × the product of the three (10,000 − loss) parts to one kW'.
+-- The exact figures are counted in equal parts of a kW: '72,000 × the product of the three (10,000 − loss) parts to one kW', and since CR 1
+-- '1,000 times as many', for every list.
 abbrev pub product : Head → ℕ
 product h = (10_000 - getD (h .losses) 0 0) * (10_000 - getD (h .losses) 1 0) * (10_000 - getD (h .losses) 2 0)
 
 abbrev pub partsOfkW : Head → ℕ
-partsOfkW h = 72_000 * product h
+partsOfkW h = 72_000_000 * product h
 
 abbrev pub partsOfWatt : Head → ℕ
-partsOfWatt h = 72 * product h
+partsOfWatt h = 72_000 * product h
 
 -- a Wh of the total is a 3,000th of a kW
 abbrev pub partsOfWh : Head → ℕ
-partsOfWh h = 24 * product h
+partsOfWh h = 24_000 * product h
 
 -- A slot result in parts. The divisor goes into the parts of a Wh, so that nothing is rounded: demand 3 says so of each.
 abbrev pub exactly : Head → Quotient → ℤ

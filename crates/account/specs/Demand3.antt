@@ -12,7 +12,7 @@ use lib.ListN.{length}
 use Rattle.numbers.specs.Lists.{any, gather}
 use Rattle.integers.specs.Integers.{floorDiv, divides, sumℤ}
 use Rattle.heads.specs.Heads.{headOf}
-use Rattle.points.specs.Points.{Point, Kind, consumer, generator, unknown, kindOf}
+use Rattle.points.specs.Points.{Point, Kind, consumer, generator, mixedFiring, unknown, kindOf}
 use Rattle.results.specs.SlotResults.{Quotient, quotients, rounded}
 use Rattle.account.specs.Account.{Account, opening, takes, after, Said, partsOfkW, partsOfWatt, partsOfWh, account}
 use Rattle.heads.specs.declared.Head.{Head}
@@ -35,10 +35,11 @@ takenAll (some a) calls = [] ∷ takenBefore a [] calls
 
 -- ---- the divisions
 
--- 'the six of each consumer'; a generator has none
+-- 'the six of each consumer', and CR 1: 'counts this division too', the six of each mixed-firing plant; a generator has none
 abbrev pub divisionsBy : Head → List ℕ → Kind → List ℕ → List Quotient
 divisionsBy h marks consumer value = quotients h marks consumer value
 divisionsBy h marks generator value = []
+divisionsBy h marks mixedFiring value = quotients h marks mixedFiring value
 divisionsBy h marks unknown value = []
 
 abbrev pub divisions : Head → List ℕ → List Point → List Quotient

@@ -1,4 +1,4 @@
--- The limits of document 01, each named once.
+-- The limits of document 01 and of the change requests to it, each named once.
 use Prim.Native.Nat.{ℕ}
 
 -- s, the first slot of the window: 9:00, and 17:00 for a window that ends at 20:00
@@ -40,6 +40,10 @@ extraHighClass = 3
 -- kW, of a generator
 abbrev pub mostBaseline : ℕ
 mostBaseline = 1_000_000
+
+-- tenths of a percent, of a mixed-firing plant's biomass (CR 1)
+abbrev pub mostShare : ℕ
+mostShare = 1_000
 
 -- kW, of an expected capacity that may be bid
 abbrev pub leastBid : ℕ

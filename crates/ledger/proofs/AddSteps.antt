@@ -13,7 +13,7 @@ use Rattle.numbers.proofs.Refusals.{untold, told, passed, both-accepted}
 use Rattle.heads.specs.declared.Head.{Head}
 use Rattle.heads.proofs.Opening.{opens}
 use Rattle.points.specs.Points.{Kind, kindOf}
-use Rattle.points.proofs.PointKinds.{known-length}
+use Rattle.points.proofs.PointKinds.{known-length, values-numbered}
 use Rattle.results.specs.SlotResults.{lacksDays, results}
 use Rattle.results.specs.Steps.{foundOf}
 use Rattle.results.specs.declared.Found.{Found}
@@ -60,13 +60,13 @@ module _ (state : State) (tag : ℕ) (value : List ℕ) (places : ℕ) where
   pub early : earlyRefusal state tag value places ≡ 0 → Early state tag value places
   unfolding addingRefusal earlyRefusal
   early e =
-      let s = sound state (untold (earlyTests state tag value places) tt e 9) in
+      let s = sound state (untold (earlyTests state tag value places) (values-numbered tag value) e 9) in
       let g = given (state .head) (state .points) (state .last) tag value places (rw (sound-is state s) at e) in
       let o = opens (state .head) (state .marks) (s .content) in
       record {
         sound = s;
         given = g;
-        days = passed (earlyTests state tag value places) (daysRow (state .head) (state .marks) tag value) tt e;
+        days = passed (earlyTests state tag value places) (daysRow (state .head) (state .marks) tag value) (values-numbered tag value) e;
         numbered = omega (arith, known-length (kindOf tag) (g .known));
         next = omega arith;
         sums = λ i. omega (arith, total-small state s i, result-small g (state .marks) o i);
@@ -75,7 +75,7 @@ module _ (state : State) (tag : ℕ) (value : List ℕ) (places : ℕ) where
   -- so it is where an adding is accepted
   pub accepted : addingRefusal state tag value places ≡ 0 → Early state tag value places
   unfolding addingRefusal earlyRefusal
-  accepted e = early (both-accepted (earlyTests state tag value places) (daysRow (state .head) (state .marks) tag value) tt e .0)
+  accepted e = early (both-accepted (earlyTests state tag value places) (daysRow (state .head) (state .marks) tag value) (values-numbered tag value) e .0)
 
 -- ---- the lent places
 

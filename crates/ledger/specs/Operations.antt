@@ -53,14 +53,17 @@ numberRows points last number = numberRow number ++ notAboveRow points last numb
 abbrev pub daysRow : Head → List ℕ → ℕ → List ℕ → List (Bool × ℕ)
 daysRow h marks tag value = (lacksDays h marks (kindOf tag) value, 18) ∷ []
 
--- 10 to 17: what is told before the days are chosen
-abbrev pub givenTests : Head → ℕ → List ℕ → ℕ → List ℕ → ℕ → List (Bool × ℕ)
-givenTests h points last tag value places =
+-- 10 to 15: what is told before the value is looked at behind its number
+abbrev pub beforeValue : Head → ℕ → List ℕ → ℕ → List ℕ → ℕ → List (Bool × ℕ)
+beforeValue h points last tag value places =
     reachedRow h points
     ++ formRows tag (length value)
     ++ placesRow places
     ++ numberRows points last (numberOf value)
-    ++ valueRows tag value
+
+-- 10 to 17: what is told before the days are chosen
+abbrev pub givenTests : Head → ℕ → List ℕ → ℕ → List ℕ → ℕ → List (Bool × ℕ)
+givenTests h points last tag value places = beforeValue h points last tag value places ++ valueRows tag value
 
 -- 10 to 18: the refusals other than 9, for the head and calendar, the points taken and the last number, and what is given
 abbrev pub pointTests : Head → List ℕ → ℕ → List ℕ → ℕ → List ℕ → ℕ → List (Bool × ℕ)

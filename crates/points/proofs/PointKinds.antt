@@ -1,34 +1,61 @@
 -- Kinds of point by their tags, and what a point of the right form or with allowed values shows. Assumes nothing.
-use mathlib.Core.Path.{_≡_}
-use mathlib.Core.Bool.{false}
-use Prim.Native.Nat.{ℕ, _≤_}
+use mathlib.Core.Path.{_≡_, ap}
+use mathlib.Core.Bool.{true, false}
+use mathlib.Core.List.{List}
+use Prim.Native.Nat.{ℕ, _+_, _*_, _≤_, _<_}
 use native.Mathlib.Omega.{arith}
-use borrow.Author.Tests.{eqb-true, not-false, eq-eqb, ne-eqb}
+use lib.Dec.{T, ltb, lt→ltb}
+use mir.Facts.{yes-and}
+use borrow.Author.Tests.{eqb-true, not-false, ne-eqb}
 use Rattle.numbers.specs.Refusals.{firstOf}
-use Rattle.numbers.proofs.Refusals.{untold}
+use Rattle.numbers.proofs.Refusals.{numbered, clear, untold}
 use Rattle.numbers.specs.PointNumbers.{numberLength}
-use Rattle.points.specs.Points.{consumerTag, generatorTag, consumerLength, generatorLength, Kind, consumer, generator, unknown, kindOf, isUnknown, sizeOf, formRows}
+use Rattle.readings.specs.Readings.{readingLength}
+use Rattle.points.specs.Points.{consumerTag, generatorTag, mixedFiringTag, consumerLength, generatorLength, Kind, consumer, generator, mixedFiring, unknown, kindOf, isUnknown, sizeOf, readingsAt, readingsIn, isUnfit, hasLarge, unfitNumber, formRows, valueRows}
 
 module _ (tag : ℕ) where
   pub is-consumer : tag ≡ consumerTag → kindOf tag ≡ consumer
-  is-consumer e = simp (eq-eqb tag consumerTag e)
+  is-consumer e = ap kindOf e
 
   pub is-generator : tag ≡ generatorTag → kindOf tag ≡ generator
-  is-generator e = simp (ne-eqb tag consumerTag (omega arith), eq-eqb tag generatorTag e)
+  is-generator e = ap kindOf e
 
-  pub is-unknown : (tag ≡ consumerTag → ⊥) → (tag ≡ generatorTag → ⊥) → kindOf tag ≡ unknown
-  is-unknown n m = simp (ne-eqb tag consumerTag n, ne-eqb tag generatorTag m)
+  pub is-mixed-firing : tag ≡ mixedFiringTag → kindOf tag ≡ mixedFiring
+  is-mixed-firing e = ap kindOf e
+
+  -- a tag of no kind of point
+  abbrev pub Other : Type 0
+  Other = (tag ≡ consumerTag → ⊥) × (tag ≡ generatorTag → ⊥) × (tag ≡ mixedFiringTag → ⊥)
+
+  pub is-unknown : Other → kindOf tag ≡ unknown
+  is-unknown n = simp (ne-eqb tag consumerTag (n .0), ne-eqb tag generatorTag (n .1), ne-eqb tag mixedFiringTag (n .2))
 
 -- every kind of point has a length, and none is longer than a consumer
 pub known-length : (kind : Kind) → isUnknown kind ≡ false → generatorLength ≤ sizeOf kind
 known-length consumer e = omega arith
 known-length generator e = omega arith
+known-length mixedFiring e = omega arith
 known-length unknown e = absurd (let z : _≡_ {A = ℕ} 0 1 = cc in omega arith)
 
 pub kind-small : (kind : Kind) → sizeOf kind ≤ consumerLength
 kind-small consumer = omega arith
 kind-small generator = omega arith
+kind-small mixedFiring = omega arith
 kind-small unknown = omega arith
+
+-- the readings lie within the value
+pub readings-within : (kind : Kind) → readingsAt kind + readingsIn kind * readingLength ≤ sizeOf kind
+readings-within consumer = omega arith
+readings-within generator = omega arith
+readings-within mixedFiring = omega arith
+readings-within unknown = omega arith
+
+-- the number of an unfit value is above those of the rows before it
+pub unfit-above : (kind : Kind) → 15 < unfitNumber kind
+unfit-above consumer = omega arith
+unfit-above generator = omega arith
+unfit-above mixedFiring = omega arith
+unfit-above unknown = omega arith
 
 -- ---- a point of the right form
 
@@ -39,3 +66,19 @@ module _ (tag size : ℕ) (form : firstOf (formRows tag size) ≡ 0) where
   -- every point has its number
   pub long-enough : numberLength ≤ size
   long-enough = omega (arith, right-length, known-length (kindOf tag) (untold (formRows tag size) tt form 11))
+
+-- ---- a point with allowed values
+
+module _ (tag : ℕ) (value : List ℕ) where
+  -- no row of the value has the number 0
+  pub values-numbered : T (numbered (valueRows tag value))
+  values-numbered =
+      let number = unfitNumber (kindOf tag) in
+      yes-and (ltb 0 number) true (lt→ltb 0 number (omega (arith, unfit-above (kindOf tag)))) tt
+
+  module _ (accepted : firstOf (valueRows tag value) ≡ 0) where
+    pub fits : isUnfit (kindOf tag) value ≡ false
+    fits = clear (valueRows tag value) values-numbered accepted .0
+
+    pub all-small : hasLarge (kindOf tag) value ≡ false
+    all-small = clear (valueRows tag value) values-numbered accepted .1 .0

@@ -1,14 +1,14 @@
--- Points (document 01, 'The test book'): consumers, tag 3, and generators, tag 4.
+-- Points (document 01, 'The test book', and CR 1): consumers, tag 3, generators, tag 4, and mixed-firing biomass plants, tag 5.
 use mathlib.Core.Bool.{Bool, true, false, cond, not, _&&_}
 use mathlib.Core.List.{List, [], _∷_, _++_}
-use Prim.Native.Nat.{ℕ, _+_}
+use Prim.Native.Nat.{ℕ, _+_, _*_}
 use lib.Dec.{leb, ltb, eqb}
 use lib.ListN.{getD, take, drop}
-use Rattle.numbers.specs.Words.{word32}
+use Rattle.numbers.specs.Words.{word16, word32}
 use Rattle.numbers.specs.PointNumbers.{numberLength, isNumber}
 use Rattle.numbers.specs.Slots.{windowSlots}
 use Rattle.readings.specs.Readings.{readingCount, firstLarge}
-use Rattle.heads.specs.Limits.{lowClass, extraHighClass, mostBaseline}
+use Rattle.heads.specs.Limits.{lowClass, extraHighClass, mostBaseline, mostShare}
 
 -- a point: its tag and its value
 pub record Point : Type 0 where
@@ -17,7 +17,7 @@ pub record Point : Type 0 where
 
 -- The kinds of point: a further kind is a line in each definition by kind.
 pub data Kind : Type 0 where
-  consumer generator unknown : Kind
+  consumer generator mixedFiring unknown : Kind
 
 abbrev pub consumerTag : ℕ
 consumerTag = 3
@@ -25,12 +25,19 @@ consumerTag = 3
 abbrev pub generatorTag : ℕ
 generatorTag = 4
 
+abbrev pub mixedFiringTag : ℕ
+mixedFiringTag = 5
+
 abbrev pub kindOf : ℕ → Kind
-kindOf tag = cond (eqb tag consumerTag) consumer (cond (eqb tag generatorTag) generator unknown)
+kindOf tag =
+    cond (eqb tag consumerTag) consumer
+    (cond (eqb tag generatorTag) generator
+    (cond (eqb tag mixedFiringTag) mixedFiring unknown))
 
 abbrev pub isUnknown : Kind → Bool
 isUnknown consumer = false
 isUnknown generator = false
+isUnknown mixedFiring = false
 isUnknown unknown = true
 
 -- 'Tag 3, consumer, 5,975 bytes: point number, class .., 1,488 readings of 4 bytes'
@@ -41,9 +48,15 @@ consumerLength = 5_975
 abbrev pub generatorLength : ℕ
 generatorLength = 50
 
+-- 'tag 5, 72 bytes: point number, biomass share in tenths of a percent (2 bytes), six readings of the part outside the feed-in tariff, six
+-- of the part inside it (4 bytes each)'. 'The pair stands under one number.'
+abbrev pub mixedFiringLength : ℕ
+mixedFiringLength = 72
+
 abbrev pub sizeOf : Kind → ℕ
 sizeOf consumer = consumerLength
 sizeOf generator = generatorLength
+sizeOf mixedFiring = mixedFiringLength
 sizeOf unknown = 0
 
 -- where the parts of a value behind its number begin
@@ -59,6 +72,18 @@ baselineAt = numberLength
 abbrev pub generatorReadingsAt : ℕ
 generatorReadingsAt = baselineAt + 4
 
+abbrev pub shareAt : ℕ
+shareAt = numberLength
+
+abbrev pub mixedFiringReadingsAt : ℕ
+mixedFiringReadingsAt = shareAt + 2
+
+abbrev pub readingsAt : Kind → ℕ
+readingsAt consumer = consumerReadingsAt
+readingsAt generator = generatorReadingsAt
+readingsAt mixedFiring = mixedFiringReadingsAt
+readingsAt unknown = 0
+
 abbrev pub numberOf : List ℕ → List ℕ
 numberOf value = take numberLength value
 
@@ -72,21 +97,24 @@ isClass class = leb lowClass class && leb class extraHighClass
 abbrev pub baselineOf : List ℕ → ℕ
 baselineOf value = word32 value baselineAt
 
+abbrev pub shareOf : List ℕ → ℕ
+shareOf value = word16 value shareAt
+
 abbrev pub readingsOf : Kind → List ℕ → List ℕ
-readingsOf consumer value = drop consumerReadingsAt value
-readingsOf generator value = drop generatorReadingsAt value
-readingsOf unknown value = []
+readingsOf kind value = drop (readingsAt kind) value
 
 -- how many these are
 abbrev pub readingsIn : Kind → ℕ
 readingsIn consumer = readingCount
 readingsIn generator = windowSlots
+readingsIn mixedFiring = 2 * windowSlots
 readingsIn unknown = 0
 
--- a class or a baseline that is not allowed
+-- a class, a baseline or a share that is not allowed
 abbrev pub isUnfit : Kind → List ℕ → Bool
 isUnfit consumer value = not (isClass (classOf value))
 isUnfit generator value = ltb mostBaseline (baselineOf value)
+isUnfit mixedFiring value = ltb mostShare (shareOf value)
 isUnfit unknown value = false
 
 -- a reading above the limit
@@ -95,7 +123,7 @@ hasLarge kind value = ltb (firstLarge (readingsOf kind value) (readingsIn kind))
 
 -- THE ROWS that a point's tag and value alone decide: adding's table and that of writing are joined from them.
 
--- 11: 'tag not 3 or 4'
+-- 11: 'tag not 3 or 4'; CR 1: nor 5
 abbrev pub tagRow : ℕ → List (Bool × ℕ)
 tagRow tag = (isUnknown (kindOf tag), 11) ∷ []
 
@@ -118,8 +146,19 @@ classRow class = (not (isClass class), 16) ∷ []
 abbrev pub baselineRow : ℕ → List (Bool × ℕ)
 baselineRow kW = (ltb mostBaseline kW, 16) ∷ []
 
+-- 50: 'share above 1,000, at the place of 16'
+abbrev pub shareRow : ℕ → List (Bool × ℕ)
+shareRow share = (ltb mostShare share, 50) ∷ []
+
+-- the number at that place
+abbrev pub unfitNumber : Kind → ℕ
+unfitNumber consumer = 16
+unfitNumber generator = 16
+unfitNumber mixedFiring = 50
+unfitNumber unknown = 16
+
 abbrev pub unfitRow : ℕ → List ℕ → List (Bool × ℕ)
-unfitRow tag value = (isUnfit (kindOf tag) value, 16) ∷ []
+unfitRow tag value = (isUnfit (kindOf tag) value, unfitNumber (kindOf tag)) ∷ []
 
 -- 17: 'any reading above 1,000,000,000, used or not'
 abbrev pub largeRow : ℕ → List ℕ → List (Bool × ℕ)

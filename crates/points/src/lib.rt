@@ -5,8 +5,8 @@ ghost use lib.ListN.{length, getD};
 ghost use Rattle.numbers.specs.Refusals.{firstOf};
 ghost use Rattle.heads.specs.Limits.{lowClass, extraHighClass};
 ghost use Rattle.numbers.specs.PointNumbers.{numberLength};
-ghost use Rattle.points.specs.Points.{kindOf, sizeOf, numberOf, hasLarge};
-ghost use Rattle.points.specs.Points.{tagRow, formRows, classRow, baselineRow, unfitRow, valueRows};
+ghost use Rattle.points.specs.Points.{kindOf, sizeOf, numberOf, readingsAt, readingsIn, hasLarge};
+ghost use Rattle.points.specs.Points.{tagRow, formRows, classRow, baselineRow, shareRow, unfitRow, valueRows};
 use numbers::NUMBER_LENGTH;
 use numbers::WINDOW_SLOTS;
 
@@ -15,12 +15,18 @@ pub const CONSUMER: u8 = 3;
 
 pub const GENERATOR: u8 = 4;
 
+pub const MIXED_FIRING: u8 = 5;
+
 pub const CONSUMER_LENGTH: usize = 5975;
 
 pub const GENERATOR_LENGTH: usize = 50;
 
-// The readings of a consumer.
+pub const MIXED_FIRING_LENGTH: usize = 72;
+
+// The readings of a consumer, and those of a mixed-firing plant, outside the tariff and inside it.
 pub const CONSUMER_READINGS: usize = 1488;
+
+const MIXED_FIRING_READINGS: usize = 12;
 
 // Where the parts of a value behind its number begin.
 pub const CLASS_AT: usize = 22;
@@ -30,6 +36,10 @@ pub const CONSUMER_READINGS_AT: usize = 23;
 pub const BASELINE_AT: usize = 22;
 
 pub const GENERATOR_READINGS_AT: usize = 26;
+
+pub const SHARE_AT: usize = 22;
+
+pub const MIXED_FIRING_READINGS_AT: usize = 24;
 
 // The voltage classes of consumers.
 const LOW: u8 = 1;
@@ -41,6 +51,9 @@ const EXTRA_HIGH: u8 = 3;
 // The kW that a generator's baseline may reach.
 const MOST_BASELINE: u32 = 1000000;
 
+// The tenths of a percent that a biomass share may reach.
+const MOST_SHARE: u16 = 1000;
+
 // A tag of no kind of point.
 pub fn tag_refusal(tag: u8) -> u32
     ensures { λ r. ⌜ r ≡ firstOf (tagRow tag) ⌝ }
@@ -48,6 +61,7 @@ pub fn tag_refusal(tag: u8) -> u32
     match tag {
         CONSUMER => refusals::ACCEPTED,
         GENERATOR => refusals::ACCEPTED,
+        MIXED_FIRING => refusals::ACCEPTED,
         _ => refusals::POINT_TAG,
     }
 }
@@ -59,6 +73,31 @@ pub fn value_length(tag: u8) -> usize
     match tag {
         CONSUMER => CONSUMER_LENGTH,
         GENERATOR => GENERATOR_LENGTH,
+        MIXED_FIRING => MIXED_FIRING_LENGTH,
+        _ => 0,
+    }
+}
+
+// Where the readings begin in a value.
+fn readings_at(tag: u8) -> usize
+    ensures { λ r. ⌜ r ≡ readingsAt (kindOf tag) ⌝ }
+{
+    match tag {
+        CONSUMER => CONSUMER_READINGS_AT,
+        GENERATOR => GENERATOR_READINGS_AT,
+        MIXED_FIRING => MIXED_FIRING_READINGS_AT,
+        _ => 0,
+    }
+}
+
+// How many readings a value has.
+fn readings_in(tag: u8) -> usize
+    ensures { λ r. ⌜ r ≡ readingsIn (kindOf tag) ⌝ }
+{
+    match tag {
+        CONSUMER => CONSUMER_READINGS,
+        GENERATOR => WINDOW_SLOTS,
+        MIXED_FIRING => MIXED_FIRING_READINGS,
         _ => 0,
     }
 }
@@ -83,6 +122,16 @@ fn baseline_refusal(kw: u32) -> u32
     }
 }
 
+// A share above the limit.
+fn share_refusal(share: u16) -> u32
+    ensures { λ r. ⌜ r ≡ firstOf (shareRow share) ⌝ }
+{
+    match share {
+        0..=MOST_SHARE => refusals::ACCEPTED,
+        _ => refusals::SHARE,
+    }
+}
+
 // The loss of a voltage class.
 pub fn loss_of(losses: [u16; 3], class: u8) -> u16
     requires { ⌜ (lowClass ≤ class) × (class ≤ extraHighClass) ⌝ }
@@ -95,7 +144,7 @@ pub fn loss_of(losses: [u16; 3], class: u8) -> u16
     }
 }
 
-// A class or a baseline that is not allowed.
+// A class, a baseline or a share that is not allowed.
 fn unfit_refusal(tag: u8, value: &[u8]) -> u32
     requires { ⌜ length (now value) ≡ sizeOf (kindOf tag) ⌝ }
     ensures { λ r. ⌜ r ≡ firstOf (unfitRow tag (now (value .entry))) ⌝ }
@@ -103,6 +152,7 @@ fn unfit_refusal(tag: u8, value: &[u8]) -> u32
     match tag {
         CONSUMER => class_refusal(value[CLASS_AT]),
         GENERATOR => baseline_refusal(numbers::word32_at(value, BASELINE_AT)),
+        MIXED_FIRING => share_refusal(numbers::word16_at(value, SHARE_AT)),
         _ => refusals::ACCEPTED,
     }
 }
@@ -112,13 +162,8 @@ fn has_large(tag: u8, value: &[u8]) -> bool
     requires { ⌜ length (now value) ≡ sizeOf (kindOf tag) ⌝ }
     ensures { λ r. ⌜ r ≡ hasLarge (kindOf tag) (now (value .entry)) ⌝ }
 {
-    match tag {
-        CONSUMER => readings::first_large(&value[CONSUMER_READINGS_AT..], CONSUMER_READINGS)
-            < CONSUMER_READINGS,
-        GENERATOR => readings::first_large(&value[GENERATOR_READINGS_AT..], WINDOW_SLOTS)
-            < WINDOW_SLOTS,
-        _ => false,
-    }
+    let count = readings_in(tag);
+    readings::first_large(&value[readings_at(tag)..], count) < count
 }
 
 // The point number at the front of a value.
@@ -149,7 +194,7 @@ pub fn form_refusal(tag: u8, length: usize) -> u32
     refusals::ACCEPTED
 }
 
-// A class, a baseline or a reading that is not allowed.
+// A class, a baseline, a share or a reading that is not allowed.
 pub fn value_refusal(tag: u8, value: &[u8]) -> u32
     requires { ⌜ length (now value) ≡ sizeOf (kindOf tag) ⌝ }
     ensures { λ r. ⌜ r ≡ firstOf (valueRows tag (now (value .entry))) ⌝ }

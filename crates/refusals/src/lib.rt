@@ -1,4 +1,4 @@
-// The refusals of document 01, 'Operations and their refusals', by name. 0 is accepted.
+// The refusals of document 01, 'Operations and their refusals', and of the change requests to it, by name. 0 is accepted.
 
 pub const ACCEPTED: u32 = 0;
 
@@ -35,6 +35,9 @@ pub const POINT_NUMBER: u32 = 14;
 pub const NUMBER_NOT_ABOVE: u32 = 15;
 
 pub const CLASS_OR_BASELINE: u32 = 16;
+
+// CR 1: a share, at the place of 16.
+pub const SHARE: u32 = 50;
 
 pub const READING: u32 = 17;
 

@@ -3,7 +3,7 @@ use mathlib.Core.Path.{_≡_}
 use mathlib.Core.Bool.{Bool, false, true≢false}
 use mathlib.Core.List.{List}
 use Prim.Native.Nat.{ℕ, _+_, _*_, _-_, _≤_, _<_}
-use native.Mathlib.Nat.{le-antisymm, lt-of-mul-lt-mul-right}
+use native.Mathlib.Nat.{le-antisymm, mul-le-mul-left, lt-of-mul-lt-mul-right}
 use native.Mathlib.Omega.{arith}
 use lib.Dec.{T, ltb}
 use lib.IntN.{ℤ, pos, natAbs, _+ℤ_, _-ℤ_, _*ℤ_}
@@ -20,12 +20,12 @@ use Rattle.readings.proofs.Large.{none-large, first-bound}
 use Rattle.readings.proofs.Bounds.{reading-bound}
 use Rattle.baseline.specs.Consumers.{mostConsumerBaseline}
 use Rattle.baseline.proofs.Bounds.{baseline-bound}
-use Rattle.heads.specs.Limits.{mostLoss, mostBaseline, mostResult}
+use Rattle.heads.specs.Limits.{mostLoss, mostBaseline, mostShare, mostResult}
 use Rattle.heads.specs.Heads.{testDay}
 use Rattle.heads.proofs.Opening.{Opens}
-use Rattle.points.specs.Points.{Kind, consumer, generator, unknown, isUnknown, isUnfit, hasLarge, readingsOf, readingsIn, baselineOf}
+use Rattle.points.specs.Points.{Kind, consumer, generator, mixedFiring, unknown, isUnknown, isUnfit, hasLarge, readingsOf, readingsIn, baselineOf, shareOf}
 use Rattle.results.proofs.SlotResults.{floor-one}
-use Rattle.results.specs.SlotResults.{Quotient, lossOf, consumerQuotient, generatorQuotient, quotients, rounded, results}
+use Rattle.results.specs.SlotResults.{Quotient, lossOf, consumerQuotient, generatorQuotient, mixedFiringQuotient, quotients, rounded, results}
 use Rattle.heads.specs.declared.Head.{Head}
 use Rattle.numbers.proofs.Tests.{no-false, noneOf, none-run}
 
@@ -63,6 +63,11 @@ consumer-small loss b u hl hb hu =
 generator-small : (kW metered : ℕ) → kW ≤ mostBaseline → metered ≤ mostReading → natAbs (rounded (generatorQuotient kW metered)) ≤ mostResult
 generator-small kW metered hk hm = rw (floor-one (pos metered -ℤ pos (500 * kW))) (simp ⊖s (omega arith))
 
+-- both readings at most, nothing of them biomass: 2,000,000,000
+mixed-firing-small : (share outside inside : ℕ) → share ≤ mostShare → outside ≤ mostReading → inside ≤ mostReading
+    → natAbs (rounded (mixedFiringQuotient share outside inside)) ≤ mostResult
+mixed-firing-small share outside inside hs ho hi = let counted : 1_000 - share ≤ 1_000 = omega arith in omega (arith, mul-le-mul-left (outside + inside) counted)
+
 -- ---- by kind of point: a line for each
 
 -- six quotients, each small once it is rounded
@@ -83,12 +88,17 @@ module _ (h : Head) (marks : List ℕ) where
   small-by o generator value fit small = none-of-six _ λ j l.
       generator-small (baselineOf value) _ (ltb-false _ _ fit)
       (none-large (readingsOf generator value) 6 (0 + j) (all-tested generator value small) (omega arith))
+  small-by o mixedFiring value fit small = none-of-six _ λ j l.
+      let reading = none-large (readingsOf mixedFiring value) 12 in
+      let tested = all-tested mixedFiring value small in
+      mixed-firing-small (shareOf value) _ _ (ltb-false _ _ fit) (reading (0 + j) tested (omega arith)) (reading (6 + (0 + j)) tested (omega arith))
   small-by o unknown value fit small = tt
 
   pub six-by : (kind : Kind) (value : List ℕ) → isUnknown kind ≡ false → length (quotients h marks kind value) ≡ 6
   unfolding quotients
   six-by consumer value e = run-length _ 0 6
   six-by generator value e = run-length _ 0 6
+  six-by mixedFiring value e = run-length _ 0 6
   six-by unknown value e = absurd (true≢false e)
 
   pub six-results : (kind : Kind) (value : List ℕ) → isUnknown kind ≡ false → length (results h marks kind value) ≡ 6

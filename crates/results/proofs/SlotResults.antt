@@ -8,12 +8,13 @@ use lib.IntN.{ℤ, pos, negsuc, _-ℤ_, _*ℤ_}
 use lib.ListN.{drop}
 use lib.Seq.{getD-drop}
 use Rattle.numbers.specs.Lists.{run}
+use Rattle.numbers.specs.Slots.{windowSlots}
 use Rattle.numbers.specs.Words.{word32}
 use Rattle.integers.specs.Integers.{floorDiv}
 use Rattle.integers.proofs.Differences.{⊖s}
 use Rattle.readings.specs.Readings.{readingLength}
-use Rattle.points.specs.Points.{generatorReadingsAt, baselineOf}
-use Rattle.results.specs.SlotResults.{generatorQuotient, generatorQuotients, rounded}
+use Rattle.points.specs.Points.{generatorReadingsAt, mixedFiringReadingsAt, baselineOf, shareOf}
+use Rattle.results.specs.SlotResults.{generatorQuotient, generatorQuotients, mixedFiringQuotient, mixedFiringQuotients, rounded}
 
 -- multiplied first and subtracted then, or the other way round
 pub scaled : (b u : ℕ) → pos (10_000 * b) -ℤ pos (240_000 * u) ≡ (pos b -ℤ pos (24 * u)) *ℤ pos 10_000
@@ -40,3 +41,15 @@ pub generator-results : (v : List ℕ) → map rounded (generatorQuotients v) �
 generator-results v =
     map-run rounded (λ j. generatorQuotient (baselineOf v) (word32 (drop generatorReadingsAt v) (j * readingLength))) 0 6
     ∙ simp (word32-drop v generatorReadingsAt)
+
+-- ---- a mixed-firing plant, slot by slot
+
+abbrev pub mixedFiringAt : List ℕ → ℕ → ℤ
+mixedFiringAt v j =
+    let at = mixedFiringReadingsAt in
+    rounded (mixedFiringQuotient (shareOf v) (word32 v (at + j * readingLength)) (word32 v (at + (windowSlots + j) * readingLength)))
+
+pub mixed-firing-results : (v : List ℕ) → map rounded (mixedFiringQuotients v) ≡ run (mixedFiringAt v) 0 6
+mixed-firing-results v =
+    map-run rounded (λ j. let readings = drop mixedFiringReadingsAt v in mixedFiringQuotient (shareOf v) (word32 readings (j * readingLength)) (word32 readings ((windowSlots + j) * readingLength))) 0 6
+    ∙ simp (word32-drop v mixedFiringReadingsAt)

@@ -1,4 +1,4 @@
--- Slot results (document 01): of a point's value six quotients, and each of them rounded. A further kind of point is a line in each
+-- Slot results (document 01, and CR 1): of a point's value six quotients, and each of them rounded. A further kind of point is a line in each
 -- definition by kind.
 use mathlib.Core.Bool.{Bool, false}
 use mathlib.Core.List.{List, [], map}
@@ -14,7 +14,7 @@ use Rattle.choosing.specs.Choosing.{isFew}
 use Rattle.baseline.specs.Baseline.{chosenDays, daySums, baseline}
 use Rattle.heads.specs.Heads.{testDay}
 use Rattle.heads.specs.declared.Head.{Head}
-use Rattle.points.specs.Points.{Kind, consumer, generator, unknown, classOf, baselineOf, readingsOf}
+use Rattle.points.specs.Points.{Kind, consumer, generator, mixedFiring, unknown, classOf, baselineOf, shareOf, readingsOf}
 
 -- the four days of a consumer's value
 abbrev pub daysOf : Head → List ℕ → List ℕ → List ℕ
@@ -24,6 +24,7 @@ daysOf h marks value = chosenDays (testDay h) marks (readingsOf consumer value) 
 abbrev pub lacksDays : Head → List ℕ → Kind → List ℕ → Bool
 lacksDays h marks consumer value = isFew (daysOf h marks value)
 lacksDays h marks generator value = false
+lacksDays h marks mixedFiring value = false
 lacksDays h marks unknown value = false
 
 -- A slot result before it is rounded: num ÷ den, in Wh.
@@ -38,6 +39,10 @@ consumerQuotient loss base used = record { num = (pos base -ℤ pos (24 * used))
 -- 'reading − 500 × its baseline in kW': no division
 abbrev pub generatorQuotient : ℕ → ℕ → Quotient
 generatorQuotient kW metered = record { num = pos metered -ℤ pos (500 * kW); den = 1 }
+
+-- CR 1: 'the two readings together × (1,000 − share) ÷ 1,000'
+abbrev pub mixedFiringQuotient : ℕ → ℕ → ℕ → Quotient
+mixedFiringQuotient share outside inside = record { num = pos ((outside + inside) * (1_000 - share)); den = 1_000 }
 
 -- 'Loss is that of the consumer's voltage class'
 abbrev pub lossOf : Head → List ℕ → ℕ
@@ -56,10 +61,17 @@ abbrev pub generatorQuotients : List ℕ → List Quotient
 generatorQuotients value =
     run (λ j. generatorQuotient (baselineOf value) (word32 (readingsOf generator value) (j * readingLength))) 0 windowSlots
 
+-- those of a mixed-firing plant: the readings of the part inside the tariff follow the six of the part outside it
+abbrev pub mixedFiringQuotients : List ℕ → List Quotient
+mixedFiringQuotients value =
+    let readings = readingsOf mixedFiring value in
+    run (λ j. mixedFiringQuotient (shareOf value) (word32 readings (j * readingLength)) (word32 readings ((windowSlots + j) * readingLength))) 0 windowSlots
+
 -- those of a point
 unfoldable pub quotients : Head → List ℕ → Kind → List ℕ → List Quotient
 quotients h marks consumer value = consumerQuotients h marks value
 quotients h marks generator value = generatorQuotients value
+quotients h marks mixedFiring value = mixedFiringQuotients value
 quotients h marks unknown value = []
 
 -- 'rounded toward minus infinity'

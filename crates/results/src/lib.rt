@@ -7,9 +7,10 @@ ghost use Rattle.numbers.specs.Slots.{windowSlots};
 ghost use Rattle.readings.specs.Readings.{mostReading};
 ghost use Rattle.choosing.specs.Days.{AtMost};
 ghost use Rattle.baseline.specs.Consumers.{Tested, mostConsumerBaseline};
-ghost use Rattle.heads.specs.Limits.{mostLoss, mostBaseline};
-ghost use Rattle.points.specs.Points.{consumer, generatorLength, kindOf, baselineOf};
-ghost use Rattle.results.specs.SlotResults.{consumerQuotient, generatorQuotient, generatorQuotients, rounded};
+ghost use Rattle.heads.specs.Limits.{mostLoss, mostBaseline, mostShare};
+ghost use Rattle.points.specs.Points.{consumer, generatorLength, mixedFiringLength, kindOf, baselineOf, shareOf};
+ghost use Rattle.results.specs.SlotResults.{consumerQuotient, generatorQuotient, mixedFiringQuotient, rounded};
+ghost use Rattle.results.specs.SlotResults.{generatorQuotients, mixedFiringQuotients};
 ghost use Rattle.results.specs.Steps.{Passed, consumerSlot, allFound, foundOf};
 use heads::Head;
 use numbers::DAYS_BACK;
@@ -20,6 +21,9 @@ use points::CONSUMER;
 use points::CONSUMER_READINGS_AT;
 use points::GENERATOR;
 use points::GENERATOR_READINGS_AT;
+use points::MIXED_FIRING;
+use points::MIXED_FIRING_READINGS_AT;
+use points::SHARE_AT;
 use readings::READING_LENGTH;
 
 // The six results, unless there are not four days.
@@ -43,6 +47,16 @@ fn generator_result(baseline: u32, metered: u32) -> i64
     ensures { λ r. ⌜ r ≡ rounded (generatorQuotient baseline metered) ⌝ }
 {
     integers::minus(metered as u64, 500 * (baseline as u64))
+}
+
+// One slot of a mixed-firing plant: the two readings are added first, so that one division is rounded.
+fn mixed_firing_result(share: u16, outside: u32, inside: u32) -> i64
+    requires { ⌜ share ≤ mostShare ⌝ }
+    ensures { λ r. ⌜ r ≡ rounded (mixedFiringQuotient share outside inside) ⌝ }
+{
+    let together = (outside as u64) + (inside as u64);
+    let counted = together * (1000 - (share as u64));
+    integers::floor_div(counted as i64, 1000)
 }
 
 // The six results of a consumer, from its baseline in the window slots.
@@ -112,6 +126,26 @@ fn generator_found(value: &[u8]) -> Found
     }
 }
 
+// A mixed-firing plant: the readings inside the tariff follow the six outside it.
+fn mixed_firing_found(value: &[u8]) -> Found
+    requires { ⌜ (length (now value) ≡ mixedFiringLength) × (shareOf (now value) ≤ mostShare) ⌝ }
+    ensures { λ r. ⌜ r ≡ allFound (mixedFiringQuotients (now (value .entry))) ⌝ }
+{
+    let share = numbers::word16_at(value, SHARE_AT);
+    let mut found = [0i64; WINDOW_SLOTS];
+    let mut j: usize = 0;
+    while j < WINDOW_SLOTS {
+        let outside = numbers::word32_at(value, MIXED_FIRING_READINGS_AT + j * READING_LENGTH);
+        let inside = numbers::word32_at(value, MIXED_FIRING_READINGS_AT + (WINDOW_SLOTS + j) * READING_LENGTH);
+        found[j] = mixed_firing_result(share, outside, inside);
+        j += 1;
+    }
+    Found {
+        enough: true,
+        found,
+    }
+}
+
 // The results of a point's value: one function for each kind of point.
 pub fn results_of(head: Head, marks: [u8; DAYS_BACK], tag: u8, value: &[u8]) -> Found
     requires { ⌜ Passed head marks (kindOf tag) (now value) ⌝ }
@@ -120,6 +154,7 @@ pub fn results_of(head: Head, marks: [u8; DAYS_BACK], tag: u8, value: &[u8]) -> 
     match tag {
         CONSUMER => consumer_found(head, marks, value),
         GENERATOR => generator_found(value),
+        MIXED_FIRING => mixed_firing_found(value),
         _ => Found {
             enough: false,
             found: [0; WINDOW_SLOTS],

@@ -14,13 +14,14 @@ use Rattle.numbers.specs.Words.{Bytes}
 use Rattle.numbers.specs.Lists.{gather}
 use Rattle.numbers.specs.PointNumbers.{below}
 use Rattle.numbers.specs.Refusals.{firstOf}
-use Rattle.numbers.proofs.Refusals.{testOf, untold, clear-zero, passed, both-accepted}
+use Rattle.numbers.proofs.Refusals.{numbered, testOf, untold, clear-zero, passed, both-accepted}
 use Rattle.numbers.proofs.Tests.{no-false}
 use Rattle.heads.specs.Heads.{headOf, openingTests, openingRefusal}
-use Rattle.points.specs.Points.{Point, kindOf, numberOf}
+use Rattle.points.specs.Points.{Point, kindOf, numberOf, formRows, numberRow, valueRows}
+use Rattle.points.proofs.PointKinds.{values-numbered}
 use Rattle.results.specs.SlotResults.{lacksDays}
 use Rattle.ledger.specs.States.{opened, taken}
-use Rattle.ledger.specs.Operations.{reachedRow, notAboveRow, placesRow, daysRow, pointTests, pointRefusal, addingTests, addingRefusal, resultsOf, addOf}
+use Rattle.ledger.specs.Operations.{unsoundRow, reachedRow, notAboveRow, placesRow, daysRow, beforeValue, pointRefusal, addingRefusal, resultsOf, addOf}
 use Rattle.heads.specs.declared.Head.{Head}
 use Rattle.ledger.specs.declared.State.{State}
 use Rattle.heads.proofs.Opening.{opening-lengths}
@@ -83,7 +84,7 @@ writtenPoints points = gather (λ p. written (p .tag) (p .value)) points
 
 writing-untold : (p : Point) → Takes p → (n : ℕ) → testOf n (pointWritingTests (p .tag) (p .value) (roomFor p)) ≡ false
 unfolding pointWritingRefusal
-writing-untold p e = untold (pointWritingTests (p .tag) (p .value) (roomFor p)) tt e
+writing-untold p e = untold (pointWritingTests (p .tag) (p .value) (roomFor p)) (values-numbered (p .tag) (p .value)) e
 
 -- rows that stand in a table, each found there by its number, tell 0 where the table tells none of its numbers
 among : (rows table : List (Bool × ℕ)) → map (λ row. row .0) rows ≡ map (λ row. testOf (row .1) table) rows
@@ -93,15 +94,36 @@ among (row ∷ rows) table same c =
     let here = ap (λ (tests : List Bool). getD tests 0 false) same ∙ c (row .1) in
     rw here (among rows table (ap (drop 1) same) c)
 
+-- The groups of rows that adding and writing share are passed one after the other: the number of an unfit value goes by its kind, so that
+-- no row behind it is found by its number.
+module _ (p : Point) where
+  abbrev formAndNumber : List (Bool × ℕ)
+  formAndNumber = formRows (p .tag) (length (p .value)) ++ numberRow (numberOf (p .value))
+
+  abbrev values : List (Bool × ℕ)
+  values = valueRows (p .tag) (p .value)
+
+  numbered-here : T (numbered values)
+  numbered-here = values-numbered (p .tag) (p .value)
+
+abbrev days : Head → List ℕ → Point → List (Bool × ℕ)
+days h marks p = daysRow h marks (p .tag) (p .value)
+
 -- a point that is written is taken, where it follows and shows its days
 module _ (h : Head) (marks last : List ℕ) (n : ℕ) (p : Point) where
   point-back : Takes p → ShowsDays h marks p → n < h .count → notAbove n last p ≡ false → pointRefusal h marks n last (p .tag) (p .value) 6 ≡ 0
   unfolding pointRefusal pointWritingRefusal
   point-back takes shows room above =
-      let beside = reachedRow h n ++ placesRow 6 ++ notAboveRow n last (numberOf (p .value)) ++ daysRow h marks (p .tag) (p .value) in
-      let writing = pointWritingTests (p .tag) (p .value) (roomFor p) in
-      let clear = clear-zero beside (lt-leb _ _ room, (refl, (above, (no-false _ shows, tt)))) in
-      among (pointTests h marks n last (p .tag) (p .value) 6) (beside ++ writing) refl (untold (beside ++ writing) tt (passed beside writing tt clear ∙ takes))
+      let beside = reachedRow h n ++ placesRow 6 ++ notAboveRow n last (numberOf (p .value)) in
+      let clear = clear-zero beside (lt-leb _ _ room, (refl, (above, tt))) in
+      let writing = both-accepted (valueWritingTests (p .tag) (p .value)) (roomRow (roomFor p) (roomFor p)) (numbered-here p) takes .0 in
+      let written = both-accepted (formAndNumber p) (values p) tt writing in
+      let table = beside ++ formAndNumber p in
+      let first = beforeValue h n last (p .tag) (p .value) 6 in
+      let first-passed = among first table refl (untold table tt (passed beside (formAndNumber p) tt clear ∙ written .0)) in
+      passed first (values p ++ days h marks p) tt first-passed
+      ∙ passed (values p) (days h marks p) (numbered-here p) (written .1)
+      ∙ clear-zero (days h marks p) (no-false _ shows, tt)
 
 points-back : (points : List Point) (state : State) → Sound state → state .points + length points ≡ state .head .count
     → T (follows (state .points) (state .last) points) → Each Takes points → Each (ShowsDays (state .head) (state .marks)) points
@@ -130,31 +152,42 @@ record Were (state : State) (n : ℕ) (points : List Point) : Type 0 where
   pub takes : Each Takes points
   pub shows : Each (ShowsDays (state .head) (state .marks)) points
 
-adding-untold : (state : State) (p : Point) → addOf state (p .tag) (p .value) 6 .refusal ≡ 0
-    → (n : ℕ) → testOf n (addingTests state (p .tag) (p .value) 6) ≡ false
-unfolding addingRefusal
-adding-untold state p e = untold (addingTests state (p .tag) (p .value) 6) tt (sym (add-refusal state (p .tag) (p .value) 6) ∙ e)
+module _ (state : State) (p : Point) (e : addOf state (p .tag) (p .value) 6 .refusal ≡ 0) where
+  abbrev first : List (Bool × ℕ)
+  first = unsoundRow state ++ beforeValue (state .head) (state .points) (state .last) (p .tag) (p .value) 6
 
-takes-back : (state : State) (p : Point) → addOf state (p .tag) (p .value) 6 .refusal ≡ 0 → Takes p
-unfolding pointWritingRefusal
-takes-back state p e =
-    let value = among (valueWritingTests (p .tag) (p .value)) (addingTests state (p .tag) (p .value) 6) refl (adding-untold state p e) in
-    passed (valueWritingTests (p .tag) (p .value)) (roomRow (roomFor p) (3 + length (p .value))) tt value
-    ∙ simp (le-ltb (roomFor p) (3 + length (p .value)) (omega arith))
+  first-and-rest : (firstOf first ≡ 0) × (firstOf (values p ++ days (state .head) (state .marks) p) ≡ 0)
+  unfolding addingRefusal
+  first-and-rest = both-accepted first (values p ++ days (state .head) (state .marks) p) tt (sym (add-refusal state (p .tag) (p .value) 6) ∙ e)
+
+  values-and-days : (firstOf (values p) ≡ 0) × (firstOf (days (state .head) (state .marks) p) ≡ 0)
+  values-and-days = both-accepted (values p) (days (state .head) (state .marks) p) (numbered-here p) (first-and-rest .1)
+
+  first-untold : (n : ℕ) → testOf n first ≡ false
+  first-untold = untold first tt (first-and-rest .0)
+
+  takes-back : Takes p
+  unfolding pointWritingRefusal
+  takes-back =
+      let form = passed (formAndNumber p) (values p) tt (among (formAndNumber p) first refl first-untold) in
+      passed (valueWritingTests (p .tag) (p .value)) (roomRow (roomFor p) (3 + length (p .value))) (numbered-here p) (form ∙ values-and-days .0)
+      ∙ simp (le-ltb (roomFor p) (3 + length (p .value)) (omega arith))
+
+  shows-back : ShowsDays (state .head) (state .marks) p
+  shows-back = rw (untold (days (state .head) (state .marks) p) tt (values-and-days .1) 18) tt
 
 points-were : {n : ℕ} {state : State} {left : List ℕ} {x : Points} → Points-read n state left x → Were state n (x .points)
 unfolding taken
 points-were {state} (none e) = record { count = refl; rising = follows-none (state .points) (state .last); takes = tt; shows = tt }
 points-were {state} (more {part} {rest} cut e read) =
     let p = part .point in
-    let c = adding-untold state p e in
     let is = ap (λ a. a .state) (add-good state (p .tag) (p .value) 6 (sym (add-refusal state (p .tag) (p .value) 6) ∙ e)) in
     let i = rw is at (points-were read) in
     record {
       count = ap suc (i .count);
-      rising = follows-more (state .points) (state .last) p (rest .points) (c 15) (i .rising);
+      rising = follows-more (state .points) (state .last) p (rest .points) (first-untold state p e 15) (i .rising);
       takes = (takes-back state p e, i .takes);
-      shows = (rw (c 18) tt, i .shows);
+      shows = (shows-back state p e, i .shows);
     }
 
 -- and were written so

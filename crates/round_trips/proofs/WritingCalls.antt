@@ -12,6 +12,7 @@ use Rattle.numbers.proofs.Places.{front-then}
 use Rattle.numbers.proofs.Refusals.{passed, both-accepted}
 use Rattle.heads.proofs.Opening.{opening-lengths}
 use Rattle.points.specs.Points.{Point}
+use Rattle.points.proofs.PointKinds.{values-numbered}
 use Rattle.fields.specs.Fields.{written}
 use Rattle.writing.specs.Writing.{roomRow, writtenHead, valueWritingTests, pointWritingRefusal, pointWritingOut}
 use Rattle.writing.proofs.Storing.{head-written, written-length}
@@ -24,7 +25,8 @@ taken-with : (p : Point) (room : ℕ) → Takes p → roomFor p ≤ room → poi
 unfolding pointWritingRefusal
 taken-with p room t h =
     let tests = valueWritingTests (p .tag) (p .value) in
-    passed tests (roomRow room (roomFor p)) tt (both-accepted tests (roomRow (roomFor p) (roomFor p)) tt t .0) ∙ simp (le-ltb room (roomFor p) h)
+    let n = values-numbered (p .tag) (p .value) in
+    passed tests (roomRow room (roomFor p)) n (both-accepted tests (roomRow (roomFor p) (roomFor p)) n t .0) ∙ simp (le-ltb room (roomFor p) h)
 
 point-out : (p : Point) (out : List ℕ) → Takes p → roomFor p ≤ length out
     → pointWritingOut (p .tag) (p .value) out ≡ atFront (written (p .tag) (p .value)) out

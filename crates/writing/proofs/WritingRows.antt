@@ -13,7 +13,7 @@ use Rattle.numbers.proofs.Refusals.{untold, told, passed}
 use Rattle.points.specs.Points.{kindOf, sizeOf, numberOf, formRows, numberRow, valueRows}
 use Rattle.fields.specs.Fields.{written}
 use Rattle.writing.specs.Writing.{roomRow, valueWritingTests, valueWritingRefusal, pointWritingRefusal, pointWritingOut}
-use Rattle.points.proofs.PointKinds.{kind-small}
+use Rattle.points.proofs.PointKinds.{kind-small, values-numbered}
 
 module _ (tag : ℕ) (value : List ℕ) where
   -- ---- the rows
@@ -51,12 +51,12 @@ module _ (tag : ℕ) (value : List ℕ) where
       pub told-small : length value < 65536
       unfolding valueWritingRefusal
       told-small =
-          let size : length value ≡ sizeOf (kindOf tag) = eqb-true _ _ (not-false _ (untold (valueWritingTests tag value) tt e 12)) in
+          let size : length value ≡ sizeOf (kindOf tag) = eqb-true _ _ (not-false _ (untold (valueWritingTests tag value) (values-numbered tag value) e 12)) in
           omega (arith, kind-small (kindOf tag))
 
       room-next : pointWritingRefusal tag value (length out) ≡ firstOf (roomRow (length out) (3 + length value))
       unfolding pointWritingRefusal valueWritingRefusal
-      room-next = passed (valueWritingTests tag value) (roomRow (length out) (3 + length value)) tt e
+      room-next = passed (valueWritingTests tag value) (roomRow (length out) (3 + length value)) (values-numbered tag value) e
 
       pub point-room : length out < 3 + length value → PointAnswer 40 out
       unfolding pointWritingOut

@@ -4,6 +4,7 @@ use borrow.Author.Needs.{needs}
 use Rattle.numbers.specs.Refusals.{firstOf}
 use Rattle.numbers.proofs.Refusals.{tells, passes}
 use Rattle.points.specs.Points.{unfitRow, largeRow, valueRows}
+use Rattle.points.proofs.PointKinds.{values-numbered}
 use Rattle.points.proofs.value_refusal.Statement.{statement}
 use Rattle.points.proofs.value_refusal.Tie as tie
 
@@ -11,7 +12,7 @@ readings-next : (c : tie.Else1) → let a = c .before .before .before .args in
     firstOf (valueRows (a .tag) (a .value .now)) ≡ firstOf (largeRow (a .tag) (a .value .now))
 readings-next c =
     let a = c .before .before .before .args in
-    passes (unfitRow (a .tag) (a .value .now)) (largeRow (a .tag) (a .value .now)) (c .before .unfit-refusal .ensures) tt (c .if1 .left)
+    passes (unfitRow (a .tag) (a .value .now)) (largeRow (a .tag) (a .value .now)) (c .before .unfit-refusal .ensures) (values-numbered (a .tag) (a .value .now)) (c .if1 .left)
 
 returns : tie.Need-returns
 returns c =
