@@ -164,7 +164,7 @@ enum tembuyas_refusal {
  *   31, 41, 1, 31    the calendar field
  *   2 to 8           what head and calendar hold
  *   then for each point
- *   20, 31, 11, 12, 31    its field: no byte left, under three bytes left, tag, length, value cut
+ *   20, 31, 11, 12, 31                  its field: no byte left, under three bytes left, tag, length, value cut
  *   14, 15, 16 or 50 by kind, 17, 18    its value
  *   and behind the last point
  *   42               a byte is left */
