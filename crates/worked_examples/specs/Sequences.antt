@@ -1,13 +1,14 @@
--- Two sequences of calls worked out by hand: what the program replies and what the account says, with the figures.
+-- Three sequences of calls worked out by hand: what the program replies and what the account says, with the figures.
 use mathlib.Core.Path.{_≡_}
 use mathlib.Core.Bool.{false}
-use mathlib.Core.List.{List, [], _∷_, _++_}
+use mathlib.Core.List.{List, [], _∷_, _++_, map}
 use Prim.Native.Nat.{ℕ, _+_, _*_}
 use lib.IntN.{pos}
 use lib.ListN.{take, replicate}
 use Rattle.numbers.specs.Lists.{gather}
 use Rattle.numbers.specs.Words.{bytesOf}
 use Rattle.heads.specs.Heads.{headOf}
+use Rattle.ledger.specs.Operations.{openOf, placesOf}
 use Rattle.calls.specs.Calls.{Call, adding, closing, Reply, refused, accepted, closed, program}
 use Rattle.account.specs.Account.{Said, account, partsOfkW}
 use Rattle.worked_examples.specs.Examples.{head, highVoltage}
@@ -56,9 +57,9 @@ WorkedOut metered inUse figures exact =
     (program twoPoints (replicate 30 0) (callsWith metered inUse) ≡ repliesWith figures)
     × (account twoPoints (replicate 30 0) (callsWith metered inUse) ≡ saidWith exact)
 
--- 72,000 × 9,300 × 9,600 × 9,800 parts to a kW
+-- 72,000,000 × 9,300 × 9,600 × 9,800 parts to a kW
 abbrev pub kW : ℕ
-kW = 62_995_968_000_000_000
+kW = 62_995_968_000_000_000_000
 
 abbrev pub PartsOfkW : Type 0
 PartsOfkW = partsOfkW (headOf twoPoints) ≡ kW
@@ -68,14 +69,14 @@ PartsOfkW = partsOfkW (headOf twoPoints) ≡ kW
 -- 605,988, which is 201 × 3,000 and a rest; the shortfall is 1,000 − 201 = 799.
 --
 -- Unrounded, the total is 600,000 + 6 × 998.9583.. = 605,993.75, and the shortfall 1,000 − 605,993.75 ÷ 3,000 = 798 + 1/480 kW. A kW has
--- 72,000 × 9,300 × 9,600 × 9,800 = 62,995,968,000,000,000 parts, and a 480th of it 131,241,600,000,000. So the printed shortfall is the
--- greater by 479/480 of a kW, which is less than a kW and four watts.
+-- 72,000,000 × 9,300 × 9,600 × 9,800 = 62,995,968,000,000,000,000 parts, and a 480th of it 131,241,600,000,000,000. So the printed shortfall
+-- is the greater by 479/480 of a kW, which is less than a kW and four watts.
 abbrev pub WithRemainder : Type 0
 WithRemainder =
     WorkedOut 100_000 241
     (record { total = pos 605_988; settled = pos 201; shortfall = 799; expected = 201; kept = 201; surplus = 0; points = 2; bid = false })
-    (798 * kW + 131_241_600_000_000)
-    × (799 * kW ≡ (798 * kW + 131_241_600_000_000) + 479 * 131_241_600_000_000)
+    (798 * kW + 131_241_600_000_000_000)
+    × (799 * kW ≡ (798 * kW + 131_241_600_000_000_000) + 479 * 131_241_600_000_000_000)
 
 -- WITHOUT ONE: readings of 99,000 and a use of 240. A slot of the consumer gives (28,800 − 24 × 240) × 10,000 ÷ (24 × 9,600) = 1,000, the
 -- total is 594,000 + 6,000 = 600,000 = 200 × 3,000, and both shortfalls are 800 kW.
@@ -85,6 +86,51 @@ WithoutRemainder =
     (record { total = pos 600_000; settled = pos 200; shortfall = 800; expected = 200; kept = 200; surplus = 0; points = 2; bid = false })
     (800 * kW)
 
+-- MIXED-FIRING PLANTS (CR 1): the point number again, a share, six readings outside the tariff and six inside it.
+abbrev pub mixedFiringOf : ℕ → ℕ → List ℕ → List ℕ → List ℕ
+mixedFiringOf digit share outside inside = replicate 21 48 ++ digit ∷ bytesOf 2 share ++ gather (bytesOf 4) (outside ++ inside)
+
+abbrev pub outsideTariff : List ℕ
+outsideTariff = 100_001 ∷ 200_001 ∷ 300_001 ∷ 400_001 ∷ 500_001 ∷ 600_001 ∷ []
+
+abbrev pub insideTariff : List ℕ
+insideTariff = 1 ∷ 2 ∷ 3 ∷ 4 ∷ 5 ∷ 6 ∷ []
+
+abbrev pub tooLarge : List ℕ
+tooLarge = replicate 6 1_000_000_001
+
+-- A closing too early, a share above 1,000 with readings above the limit, these readings alone, the plant with a share of 33.3 %, one that
+-- burns wood alone, the closing.
+abbrev pub plantCalls : List Call
+plantCalls =
+    closing
+    ∷ adding 5 (mixedFiringOf 49 1_001 outsideTariff tooLarge) 6
+    ∷ adding 5 (mixedFiringOf 49 333 outsideTariff tooLarge) 6
+    ∷ adding 5 (mixedFiringOf 49 333 outsideTariff insideTariff) 6
+    ∷ adding 5 (mixedFiringOf 50 1_000 outsideTariff insideTariff) 6
+    ∷ closing
+    ∷ []
+
+-- 100,002 × 667 ÷ 1,000 = 66,701.334 and so on: 66,701, 133,402, 200,102, 266,803, 333,504 and 400,204. Rounded apart, the two readings of
+-- the first slot would give 66,700.
+abbrev pub PlantSlots : Type 0
+PlantSlots =
+    placesOf (openOf twoPoints (replicate 30 0) .state) 5 (mixedFiringOf 49 333 outsideTariff insideTariff) (replicate 6 (pos 0))
+    ≡ map pos (66_701 ∷ 133_402 ∷ 200_102 ∷ 266_803 ∷ 333_504 ∷ 400_204 ∷ [])
+
+-- The total is 1,400,716, which is 466 × 3,000 and a rest; the shortfall is 1,000 − 466 = 534.
+--
+-- Unrounded, the total is 2,100,027 × 0.667 = 1,400,718.009, and the shortfall 1,000 − 1,400,718.009 ÷ 3,000 = 533.093997 kW. A millionth of
+-- a kW is 62,995,968,000,000 parts. So the printed shortfall is the greater by 906,003 of these.
+abbrev pub WithPlants : Type 0
+WithPlants =
+    let exact = 533 * kW + 93_997 * 62_995_968_000_000 in
+    let figures : Figures = record { total = pos 1_400_716; settled = pos 466; shortfall = 534; expected = 466; kept = 466; surplus = 0; points = 2; bid = false } in
+    (program twoPoints (replicate 30 0) plantCalls ≡ accepted ∷ refused 20 ∷ refused 50 ∷ refused 17 ∷ accepted ∷ accepted ∷ closed figures ∷ [])
+    × (account twoPoints (replicate 30 0) plantCalls
+    ≡ Said.accepted ∷ Said.refused ∷ Said.refused ∷ Said.refused ∷ Said.accepted ∷ Said.accepted ∷ Said.closed exact ∷ [])
+    × (534 * kW ≡ exact + 906_003 * 62_995_968_000_000)
+
 -- THE WORKED SEQUENCES
 abbrev pub WorkedSequences : Type 0
-WorkedSequences = PartsOfkW × WithRemainder × WithoutRemainder
+WorkedSequences = PartsOfkW × WithRemainder × WithoutRemainder × PlantSlots × WithPlants
