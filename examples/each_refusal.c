@@ -1,5 +1,6 @@
-/* Tries the places and names of tembuyas.h: a book filled by its macros settles as examples H and M of docs/BOOK.md
- * say, and each single fault in it gets the refusal of that name, from every function that can give it.
+/* Tries the places and names of tembuyas.h: a book filled by its macros settles as examples H and M of docs/BOOK.md and
+ * list 3 of docs/ROUNDING.md say, and each single fault in it gets the refusal of that name, from every function that
+ * can give it.
  *
  *     each_refusal
  *
@@ -10,13 +11,14 @@
 #include "tembuyas.h"
 #include "words.h"
 
-/* A book with a head, a calendar, one consumer and one generator; where the four values begin. */
+/* A book with a head, a calendar and one point of each kind; where the five values begin. */
 enum {
     HEAD = TEMBUYAS_TAG_AND_LENGTH_BYTES,
     CALENDAR = HEAD + TEMBUYAS_HEAD_BYTES + TEMBUYAS_TAG_AND_LENGTH_BYTES,
     CONSUMER = TEMBUYAS_WRITTEN_HEAD_BYTES + TEMBUYAS_TAG_AND_LENGTH_BYTES,
     GENERATOR = CONSUMER + TEMBUYAS_CONSUMER_BYTES + TEMBUYAS_TAG_AND_LENGTH_BYTES,
-    BOOK = GENERATOR + TEMBUYAS_GENERATOR_BYTES
+    MIXED_FIRING = GENERATOR + TEMBUYAS_GENERATOR_BYTES + TEMBUYAS_TAG_AND_LENGTH_BYTES,
+    BOOK = MIXED_FIRING + TEMBUYAS_MIXED_FIRING_BYTES
 };
 
 static uint8_t good[BOOK + 1], book[BOOK + 1];
@@ -48,7 +50,7 @@ static void fill_head(uint8_t *head)
     put(head + TEMBUYAS_HEAD_LOSS_HIGH, 2, 400);
     put(head + TEMBUYAS_HEAD_LOSS_EXTRA_HIGH, 2, 200);
     put(head + TEMBUYAS_HEAD_CONTRACT, 4, 1000);
-    put(head + TEMBUYAS_HEAD_COUNT, 2, 2);
+    put(head + TEMBUYAS_HEAD_COUNT, 2, 3);
 }
 
 /* The consumer of example H, all readings 1,200 but a use of 240, and the generator of example M. */
@@ -67,22 +69,42 @@ static void fill_points(uint8_t *consumer, uint8_t *generator)
         put(generator + TEMBUYAS_GENERATOR_READING(slot), 4, 550000);
 }
 
-/* Writes the good book, and settles it: six times 1,000 and six times 550,000 Wh. */
-static void try_good_book(void)
+/* Plant A of list 3: share 33.3 percent, readings that rise from slot to slot. */
+static void fill_mixed_firing(uint8_t *plant)
+{
+    memcpy(plant + TEMBUYAS_NUMBER, "0000000000000000000003", TEMBUYAS_NUMBER_BYTES);
+    put(plant + TEMBUYAS_MIXED_FIRING_SHARE, 2, 333);
+    for (int slot = 0; slot < 6; slot++) {
+        put(plant + TEMBUYAS_MIXED_FIRING_OUTSIDE_READING(slot), 4, 400700 + 3000 * (uint32_t)slot);
+        put(plant + TEMBUYAS_MIXED_FIRING_INSIDE_READING(slot), 4, 200001 + 1000 * (uint32_t)slot);
+    }
+}
+
+static void write_good_book(void)
 {
     static uint8_t consumer[TEMBUYAS_CONSUMER_BYTES];
     uint8_t head[TEMBUYAS_HEAD_BYTES], calendar[TEMBUYAS_CALENDAR_BYTES] = { TEMBUYAS_MARK_NONE };
-    uint8_t generator[TEMBUYAS_GENERATOR_BYTES], result[TEMBUYAS_RESULT_BYTES];
-    static const int64_t due[TEMBUYAS_RESULT_WORDS] = { 3306000, 1102, 0, 1102, 1000, 102, 2, 1 };
+    uint8_t generator[TEMBUYAS_GENERATOR_BYTES], plant[TEMBUYAS_MIXED_FIRING_BYTES];
     fill_head(head);
     fill_points(consumer, generator);
+    fill_mixed_firing(plant);
     check(tembuyas_write_head(head, sizeof head, calendar, sizeof calendar, good,
                               TEMBUYAS_WRITTEN_HEAD_BYTES), 0, "a head and a calendar");
     check(tembuyas_write_point(TEMBUYAS_TAG_CONSUMER, consumer, sizeof consumer, good + CONSUMER - 3,
                                TEMBUYAS_WRITTEN_CONSUMER_BYTES), 0, "example H's consumer");
     check(tembuyas_write_point(TEMBUYAS_TAG_GENERATOR, generator, sizeof generator, good + GENERATOR - 3,
                                TEMBUYAS_WRITTEN_GENERATOR_BYTES), 0, "example M's generator");
-    check(tembuyas_settle_book(good, BOOK, result, sizeof result), TEMBUYAS_ACCEPTED, "H and M");
+    check(tembuyas_write_point(TEMBUYAS_TAG_MIXED_FIRING, plant, sizeof plant, good + MIXED_FIRING - 3,
+                               TEMBUYAS_WRITTEN_MIXED_FIRING_BYTES), 0, "list 3's plant A");
+}
+
+/* Settles the good book: six times 1,000 and six times 550,000 Wh, and the 2,444,022 Wh of the plant. */
+static void try_good_book(void)
+{
+    uint8_t result[TEMBUYAS_RESULT_BYTES];
+    static const int64_t due[TEMBUYAS_RESULT_WORDS] = { 5750022, 1916, 0, 1916, 1000, 916, 3, 1 };
+    write_good_book();
+    check(tembuyas_settle_book(good, BOOK, result, sizeof result), TEMBUYAS_ACCEPTED, "H, M and list 3's plant A");
     for (int word = 0; word < TEMBUYAS_RESULT_WORDS; word++) {
         if (result_word(result, (enum tembuyas_word)word) == due[word])
             continue;
@@ -110,9 +132,13 @@ static uint32_t points_written(void)
     static uint8_t out[TEMBUYAS_WRITTEN_CONSUMER_BYTES];
     uint32_t refusal = tembuyas_write_point(book[CONSUMER - 3], book + CONSUMER, TEMBUYAS_CONSUMER_BYTES,
                                             out, sizeof out);
-    if (refusal)
-        return refusal;
-    return tembuyas_write_point(book[GENERATOR - 3], book + GENERATOR, TEMBUYAS_GENERATOR_BYTES, out, sizeof out);
+    if (!refusal)
+        refusal = tembuyas_write_point(book[GENERATOR - 3], book + GENERATOR, TEMBUYAS_GENERATOR_BYTES,
+                                       out, sizeof out);
+    if (!refusal)
+        refusal = tembuyas_write_point(book[MIXED_FIRING - 3], book + MIXED_FIRING, TEMBUYAS_MIXED_FIRING_BYTES,
+                                       out, sizeof out);
+    return refusal;
 }
 
 /* One number of the good book changed: what settling it answers, and writing its head or its points. */
@@ -140,22 +166,33 @@ static const struct change changes[] = {
     { HEAD + TEMBUYAS_HEAD_CONTRACT, 4, 10000001, TEMBUYAS_CONTRACT, TEMBUYAS_CONTRACT, 0 },
     { HEAD + TEMBUYAS_HEAD_COUNT, 2, 0, TEMBUYAS_COUNT, TEMBUYAS_COUNT, 0 },
     { HEAD + TEMBUYAS_HEAD_COUNT, 2, 10001, TEMBUYAS_COUNT, TEMBUYAS_COUNT, 0 },
-    { HEAD + TEMBUYAS_HEAD_COUNT, 2, 3, TEMBUYAS_COUNT_NOT_REACHED, 0, 0 },
-    { HEAD + TEMBUYAS_HEAD_COUNT, 2, 1, TEMBUYAS_BYTES_AFTER, 0, 0 },
+    { HEAD + TEMBUYAS_HEAD_COUNT, 2, 4, TEMBUYAS_COUNT_NOT_REACHED, 0, 0 },
+    { HEAD + TEMBUYAS_HEAD_COUNT, 2, 2, TEMBUYAS_BYTES_AFTER, 0, 0 },
     { CALENDAR + 29, 1, TEMBUYAS_MARK_ECONOMIC, 0, 0, 0 },
     { CALENDAR + 29, 1, TEMBUYAS_MARK_ECONOMIC + 1, TEMBUYAS_MARK, TEMBUYAS_MARK, 0 },
     { HEAD - 3, 1, TEMBUYAS_TAG_CALENDAR, TEMBUYAS_WRONG_TAG, 0, 0 },
     { CALENDAR - 3, 1, TEMBUYAS_TAG_HEAD, TEMBUYAS_WRONG_TAG, 0, 0 },
-    { CONSUMER - 3, 1, 5, TEMBUYAS_POINT_TAG, 0, TEMBUYAS_POINT_TAG },
+    { CONSUMER - 3, 1, TEMBUYAS_TAG_CALENDAR, TEMBUYAS_POINT_TAG, 0, TEMBUYAS_POINT_TAG },
+    { MIXED_FIRING - 3, 1, 6, TEMBUYAS_POINT_TAG, 0, TEMBUYAS_POINT_TAG },
     { CONSUMER - 3, 1, TEMBUYAS_TAG_GENERATOR, TEMBUYAS_POINT_LENGTH, 0, TEMBUYAS_POINT_LENGTH },
+    { GENERATOR - 3, 1, TEMBUYAS_TAG_MIXED_FIRING, TEMBUYAS_POINT_LENGTH, 0, TEMBUYAS_POINT_LENGTH },
+    { MIXED_FIRING - 3, 1, TEMBUYAS_TAG_GENERATOR, TEMBUYAS_POINT_LENGTH, 0, TEMBUYAS_POINT_LENGTH },
     { CONSUMER - 2, 2, 5974, TEMBUYAS_POINT_LENGTH, 0, 0 },
+    { MIXED_FIRING - 2, 2, 73, TEMBUYAS_POINT_LENGTH, 0, 0 },
     { CONSUMER + TEMBUYAS_NUMBER, 1, 'A', TEMBUYAS_POINT_NUMBER, 0, TEMBUYAS_POINT_NUMBER },
+    { MIXED_FIRING + TEMBUYAS_NUMBER + 21, 1, ' ', TEMBUYAS_POINT_NUMBER, 0, TEMBUYAS_POINT_NUMBER },
     { GENERATOR + TEMBUYAS_NUMBER + 21, 1, '1', TEMBUYAS_NUMBER_NOT_ABOVE, 0, 0 },
+    { MIXED_FIRING + TEMBUYAS_NUMBER + 21, 1, '2', TEMBUYAS_NUMBER_NOT_ABOVE, 0, 0 },
     { CONSUMER + TEMBUYAS_CONSUMER_CLASS, 1, 0, TEMBUYAS_CLASS_OR_BASELINE, 0, TEMBUYAS_CLASS_OR_BASELINE },
     { CONSUMER + TEMBUYAS_CONSUMER_CLASS, 1, TEMBUYAS_CLASS_EXTRA_HIGH, 0, 0, 0 },
     { CONSUMER + TEMBUYAS_CONSUMER_CLASS, 1, 4, TEMBUYAS_CLASS_OR_BASELINE, 0, TEMBUYAS_CLASS_OR_BASELINE },
     { GENERATOR + TEMBUYAS_GENERATOR_BASELINE, 4, 1000000, 0, 0, 0 },
     { GENERATOR + TEMBUYAS_GENERATOR_BASELINE, 4, 1000001, TEMBUYAS_CLASS_OR_BASELINE, 0, TEMBUYAS_CLASS_OR_BASELINE },
+    /* A plant never gets 16: with share 0 its first byte behind the number is no class, with 1,000 no baseline. */
+    { MIXED_FIRING + TEMBUYAS_MIXED_FIRING_SHARE, 2, 0, 0, 0, 0 },
+    { MIXED_FIRING + TEMBUYAS_MIXED_FIRING_SHARE, 2, 1000, 0, 0, 0 },
+    { MIXED_FIRING + TEMBUYAS_MIXED_FIRING_SHARE, 2, 1001, TEMBUYAS_SHARE, 0, TEMBUYAS_SHARE },
+    { MIXED_FIRING + TEMBUYAS_MIXED_FIRING_SHARE, 2, 65535, TEMBUYAS_SHARE, 0, TEMBUYAS_SHARE },
     { CONSUMER + TEMBUYAS_CONSUMER_READING(30, 47), 4, 1000000000, 0, 0, 0 },
     { CONSUMER + TEMBUYAS_CONSUMER_READING(30, 47), 4, 1000000001, TEMBUYAS_READING, 0, TEMBUYAS_READING },
     { GENERATOR + TEMBUYAS_GENERATOR_READING(5), 4, 1000000001, TEMBUYAS_READING, 0, TEMBUYAS_READING },
@@ -174,10 +211,34 @@ static void try_changes(void)
     }
 }
 
+/* Each of a plant's twelve readings at its limit and above it, and above it with a share above its own: 50 is told in
+ * the place of 16, behind 14 and before 17. */
+static void try_mixed_firing(void)
+{
+    for (int i = 0; i < 12; i++) {
+        uint8_t *plant = book + MIXED_FIRING;
+        uint8_t *reading = plant + (i < 6 ? TEMBUYAS_MIXED_FIRING_OUTSIDE_READING(i)
+                                          : TEMBUYAS_MIXED_FIRING_INSIDE_READING(i - 6));
+        memcpy(book, good, sizeof book);
+        put(reading, 4, 1000000000);
+        check(settled(BOOK), TEMBUYAS_ACCEPTED, "a plant's reading at the limit");
+        put(reading, 4, 1000000001);
+        check(settled(BOOK), TEMBUYAS_READING, "a plant's reading above the limit");
+        check(points_written(), TEMBUYAS_READING, "a plant's reading above the limit, written");
+        put(plant + TEMBUYAS_MIXED_FIRING_SHARE, 2, 1001);
+        check(settled(BOOK), TEMBUYAS_SHARE, "50 before 17");
+        check(points_written(), TEMBUYAS_SHARE, "50 before 17, written");
+    }
+    book[MIXED_FIRING + TEMBUYAS_NUMBER + 21] = '2';
+    check(settled(BOOK), TEMBUYAS_NUMBER_NOT_ABOVE, "15 before 50");
+    book[MIXED_FIRING + TEMBUYAS_NUMBER + 21] = ' ';
+    check(points_written(), TEMBUYAS_POINT_NUMBER, "14 before 50");
+}
+
 /* What is not a number at a place. */
 static void try_lengths(void)
 {
-    uint8_t out[TEMBUYAS_RESULT_BYTES];
+    uint8_t out[TEMBUYAS_WRITTEN_MIXED_FIRING_BYTES];
     memcpy(book, good, sizeof book);
     check(settled(0), TEMBUYAS_BOOK_CUT, "an empty book");
     check(settled(CALENDAR - 3), TEMBUYAS_BOOK_CUT, "no calendar");
@@ -189,6 +250,8 @@ static void try_lengths(void)
     check(tembuyas_write_head(book + HEAD, 17, book + CALENDAR, 29, out, 53), TEMBUYAS_HEAD_LENGTH, "29 marks");
     check(tembuyas_write_point(4, book + GENERATOR, 50, out, 52), TEMBUYAS_LENT_BYTES, "room for a generator");
     check(tembuyas_write_point(4, book + GENERATOR, 49, out, 53), TEMBUYAS_POINT_LENGTH, "49 bytes of a generator");
+    check(tembuyas_write_point(5, book + MIXED_FIRING, 72, out, 74), TEMBUYAS_LENT_BYTES, "room for a plant");
+    check(tembuyas_write_point(5, book + MIXED_FIRING, 71, out, 75), TEMBUYAS_POINT_LENGTH, "71 bytes of a plant");
     memset(book + CALENDAR, TEMBUYAS_MARK_HOLIDAY, TEMBUYAS_CALENDAR_BYTES);
     check(settled(BOOK), TEMBUYAS_TOO_FEW_DAYS, "thirty holidays");
     memcpy(book, good, sizeof book);
@@ -200,6 +263,7 @@ int main(void)
 {
     try_good_book();
     try_changes();
+    try_mixed_firing();
     try_lengths();
     if (!failures)
         printf("each refusal as named\n");

@@ -18,8 +18,12 @@
 _Static_assert(TEMBUYAS_WRITTEN_HEAD_BYTES == 3 + TEMBUYAS_HEAD_BYTES + 3 + TEMBUYAS_CALENDAR_BYTES, "head fields");
 _Static_assert(TEMBUYAS_WRITTEN_CONSUMER_BYTES == 3 + TEMBUYAS_CONSUMER_BYTES, "consumer field");
 _Static_assert(TEMBUYAS_WRITTEN_GENERATOR_BYTES == 3 + TEMBUYAS_GENERATOR_BYTES, "generator field");
+_Static_assert(TEMBUYAS_WRITTEN_MIXED_FIRING_BYTES == 3 + TEMBUYAS_MIXED_FIRING_BYTES, "mixed-firing field");
 _Static_assert(TEMBUYAS_CONSUMER_READING(31, 0) == TEMBUYAS_CONSUMER_BYTES, "readings of 31 days");
 _Static_assert(TEMBUYAS_GENERATOR_READING(6) == TEMBUYAS_GENERATOR_BYTES, "six readings");
+_Static_assert(TEMBUYAS_MIXED_FIRING_SHARE + 2 == TEMBUYAS_MIXED_FIRING_OUTSIDE, "the share is before the readings");
+_Static_assert(TEMBUYAS_MIXED_FIRING_OUTSIDE_READING(6) == TEMBUYAS_MIXED_FIRING_INSIDE, "six readings outside");
+_Static_assert(TEMBUYAS_MIXED_FIRING_INSIDE_READING(6) == TEMBUYAS_MIXED_FIRING_BYTES, "six readings inside");
 _Static_assert(TEMBUYAS_HEAD_COUNT + 2 == TEMBUYAS_HEAD_BYTES, "the count ends the head");
 _Static_assert(8 * TEMBUYAS_RESULT_WORDS == TEMBUYAS_RESULT_BYTES, "eight words");
 
@@ -153,6 +157,7 @@ static void try_null(const uint8_t *book, size_t length)
     check(tembuyas_write_point(0, NULL, 0, NULL, 0) == TEMBUYAS_POINT_TAG, "no point");
     check(tembuyas_write_point(TEMBUYAS_TAG_CONSUMER, NULL, 0, NULL, 0) == TEMBUYAS_POINT_LENGTH, "no consumer");
     check(tembuyas_write_point(TEMBUYAS_TAG_GENERATOR, NULL, 0, out, 64) == TEMBUYAS_POINT_LENGTH, "no generator");
+    check(tembuyas_write_point(TEMBUYAS_TAG_MIXED_FIRING, NULL, 0, out, 64) == TEMBUYAS_POINT_LENGTH, "no plant");
     check(tembuyas_write_point(TEMBUYAS_TAG_GENERATOR, generator, 50, NULL, 0) == TEMBUYAS_LENT_BYTES, "no room");
 }
 
@@ -267,6 +272,7 @@ int main(void)
     try_writing_head(book);
     try_writing_point(TEMBUYAS_TAG_CONSUMER, TEMBUYAS_CONSUMER_BYTES);
     try_writing_point(TEMBUYAS_TAG_GENERATOR, TEMBUYAS_GENERATOR_BYTES);
+    try_writing_point(TEMBUYAS_TAG_MIXED_FIRING, TEMBUYAS_MIXED_FIRING_BYTES);
     try_overlap();
     try_threads(book, length, due);
     free(book);

@@ -27,6 +27,7 @@ const char *refusal_in_words(uint32_t refusal)
     case TEMBUYAS_LENT_BYTES: return "not 64 bytes for the result, or too few to write to";
     case TEMBUYAS_WRONG_TAG: return "the head or the calendar is not where it belongs";
     case TEMBUYAS_BYTES_AFTER: return "bytes follow the last point";
+    case TEMBUYAS_SHARE: return "a biomass share is above 100.0 percent";
     default: return "a refusal that this screen does not know";
     }
 }

@@ -33,7 +33,7 @@ extern "C" {
 
 /* The version of this header: one higher with every change of a size, a place, a tag, a refusal, a word or a function.
  * The archive has no version of its own; take both from the same commit. */
-#define TEMBUYAS_VERSION 1
+#define TEMBUYAS_VERSION 2
 
 /* ---- The test book --------------------------------------------------------------------------------------------------
  *
@@ -44,18 +44,21 @@ extern "C" {
 #define TEMBUYAS_TAG_CALENDAR 2
 #define TEMBUYAS_TAG_CONSUMER 3
 #define TEMBUYAS_TAG_GENERATOR 4
+#define TEMBUYAS_TAG_MIXED_FIRING 5
 
 /* The bytes of a value. */
 #define TEMBUYAS_HEAD_BYTES 17
 #define TEMBUYAS_CALENDAR_BYTES 30
 #define TEMBUYAS_CONSUMER_BYTES 5975
 #define TEMBUYAS_GENERATOR_BYTES 50
+#define TEMBUYAS_MIXED_FIRING_BYTES 72
 
 /* The bytes of a field: tag and length, and what the two writing functions write. */
 #define TEMBUYAS_TAG_AND_LENGTH_BYTES 3
 #define TEMBUYAS_WRITTEN_HEAD_BYTES 53       /* the head field and the calendar field */
 #define TEMBUYAS_WRITTEN_CONSUMER_BYTES 5978
 #define TEMBUYAS_WRITTEN_GENERATOR_BYTES 53
+#define TEMBUYAS_WRITTEN_MIXED_FIRING_BYTES 75
 
 /* Head. */
 #define TEMBUYAS_HEAD_YEAR 0                 /* 2 bytes: the test day, 2020-01-01 to 2099-12-31, Monday to Friday */
@@ -75,8 +78,8 @@ extern "C" {
 #define TEMBUYAS_MARK_DISPATCH 2             /* earlier dispatch by the grid operator */
 #define TEMBUYAS_MARK_ECONOMIC 3             /* economic dispatch, excluded on application */
 
-/* Point numbers: 22 ASCII digits at the front of a consumer's or generator's value. Twenty-two nines are refused.
- * Numbers rise strictly over the whole book, consumers and generators together. */
+/* Point numbers: 22 ASCII digits at the front of a point's value. Twenty-two nines are refused. Numbers rise strictly
+ * over the whole book, points of all kinds together. */
 #define TEMBUYAS_NUMBER 0
 #define TEMBUYAS_NUMBER_BYTES 22
 
@@ -93,6 +96,14 @@ extern "C" {
 #define TEMBUYAS_GENERATOR_BASELINE 22       /* 4 bytes, kW: 0, or the assessed capacity where one site bids twice */
 #define TEMBUYAS_GENERATOR_READINGS 26
 #define TEMBUYAS_GENERATOR_READING(window_slot) (26 + 4 * (window_slot)) /* 0 to 5 */
+
+/* Mixed-firing biomass plant: the six readings of the window for the part outside the feed-in tariff and six for the
+ * part inside it, 4 bytes in Wh, at most 1,000,000,000 each. The pair is one point and has one number. */
+#define TEMBUYAS_MIXED_FIRING_SHARE 22       /* 2 bytes: biomass share in tenths of a percent, at most 1,000 */
+#define TEMBUYAS_MIXED_FIRING_OUTSIDE 24
+#define TEMBUYAS_MIXED_FIRING_OUTSIDE_READING(window_slot) (24 + 4 * (window_slot)) /* 0 to 5 */
+#define TEMBUYAS_MIXED_FIRING_INSIDE 48
+#define TEMBUYAS_MIXED_FIRING_INSIDE_READING(window_slot) (48 + 4 * (window_slot)) /* 0 to 5 */
 
 /* ---- The result of a settled book -----------------------------------------------------------------------------------
  *
@@ -126,7 +137,7 @@ enum tembuyas_refusal {
     TEMBUYAS_COUNT = 7,              /* number of points not 1 to 10,000 */
     TEMBUYAS_MARK = 8,               /* a calendar mark above 3 */
     /* points */
-    TEMBUYAS_POINT_TAG = 11,         /* tag of no point: not 3 or 4 */
+    TEMBUYAS_POINT_TAG = 11,         /* tag of no point: not 3, 4 or 5 */
     TEMBUYAS_POINT_LENGTH = 12,      /* length of the value not that of the tag */
     TEMBUYAS_POINT_NUMBER = 14,      /* number not 22 digits, or all nines */
     TEMBUYAS_NUMBER_NOT_ABOVE = 15,  /* number not above that of the point before */
@@ -138,7 +149,9 @@ enum tembuyas_refusal {
     TEMBUYAS_BOOK_CUT = 31,          /* the book is empty or ends within a field, or before its calendar */
     TEMBUYAS_LENT_BYTES = 40,        /* not 64 result bytes, or too few bytes to write to */
     TEMBUYAS_WRONG_TAG = 41,         /* head (tag 1) or calendar (tag 2) not where it belongs */
-    TEMBUYAS_BYTES_AFTER = 42        /* bytes after the last point */
+    TEMBUYAS_BYTES_AFTER = 42,       /* bytes after the last point */
+    /* mixed-firing plants */
+    TEMBUYAS_SHARE = 50              /* a biomass share above 1,000 (100.0 percent); told in the place of 16 */
 };
 
 /* ---- Functions --------------------------------------------------------------------------------------------------- */
@@ -151,8 +164,8 @@ enum tembuyas_refusal {
  *   31, 41, 1, 31    the calendar field
  *   2 to 8           what head and calendar hold
  *   then for each point
- *   20, 31, 11, 12, 31    its field: no byte left, under three bytes left, tag, length, value cut
- *   14 to 18              its value
+ *   20, 31, 11, 12, 31                  its field: no byte left, under three bytes left, tag, length, value cut
+ *   14, 15, 16 or 50 by kind, 17, 18    its value
  *   and behind the last point
  *   42               a byte is left */
 uint32_t tembuyas_settle_book(const uint8_t *book, size_t book_length, uint8_t *result, size_t result_length);
@@ -165,10 +178,10 @@ uint32_t tembuyas_write_head(const uint8_t *head, size_t head_length, const uint
                              uint8_t *out, size_t out_length);
 
 /* Writes the field of one point, from its tag and value. Accepted: the first 3 + value_length bytes of out are written
- * (5,978 for a consumer, 53 for a generator); bytes behind them keep their values.
+ * (5,978 for a consumer, 53 for a generator, 75 for a mixed-firing plant); bytes behind them keep their values.
  *
- * Refusals, in this order: 11, 12, 14, 16, 17; then 40, out_length too small. The order of numbers (15), the days of a
- * consumer (18) and the number of points (20, 42) are seen only when the book is settled. */
+ * Refusals, in this order: 11, 12, 14, 16 or 50 by kind, 17; then 40, out_length too small. The order of numbers (15),
+ * the days of a consumer (18) and the number of points (20, 42) are seen only when the book is settled. */
 uint32_t tembuyas_write_point(uint8_t tag, const uint8_t *value, size_t value_length, uint8_t *out, size_t out_length);
 
 #ifdef __cplusplus
