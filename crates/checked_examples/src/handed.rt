@@ -11,7 +11,6 @@ use numbers::WINDOW_SLOTS;
 use points::BASELINE_AT;
 use points::CLASS_AT;
 use points::CONSUMER_LENGTH;
-use points::CONSUMER_READINGS;
 use points::CONSUMER_READINGS_AT;
 use points::GENERATOR_LENGTH;
 use points::GENERATOR_READINGS_AT;
@@ -102,7 +101,7 @@ pub fn put_consumer(value: &mut [u8], earlier: u32, used: u32)
     put_byte(value, CLASS_AT, 2);
     put_readings(
         &mut value[CONSUMER_READINGS_AT..CONSUMER_LENGTH],
-        CONSUMER_READINGS,
+        1488,
         1200,
     );
     put_readings(&mut value[87..111], WINDOW_SLOTS, earlier);
@@ -127,6 +126,10 @@ pub fn put_mixed_firing(value: &mut [u8], share: u16, outside: u32, inside: u32)
     put_number(value);
     put_byte(value, SHARE_AT, bytes[0]);
     put_byte(value, SHARE_AT + 1, bytes[1]);
-    put_readings(&mut value[MIXED_FIRING_READINGS_AT..48], WINDOW_SLOTS, outside);
+    put_readings(
+        &mut value[MIXED_FIRING_READINGS_AT..48],
+        WINDOW_SLOTS,
+        outside,
+    );
     put_readings(&mut value[48..MIXED_FIRING_LENGTH], WINDOW_SLOTS, inside);
 }

@@ -61,7 +61,7 @@ beforeValue h points last tag value places =
     ++ placesRow places
     ++ numberRows points last (numberOf value)
 
--- 10 to 17: what is told before the days are chosen
+-- 10 to 17, with 50 in the place of 16: what is told before the days are chosen
 abbrev pub givenTests : Head → ℕ → List ℕ → ℕ → List ℕ → ℕ → List (Bool × ℕ)
 givenTests h points last tag value places = beforeValue h points last tag value places ++ valueRows tag value
 

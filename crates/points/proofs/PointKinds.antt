@@ -1,5 +1,5 @@
 -- Kinds of point by their tags, and what a point of the right form or with allowed values shows. Assumes nothing.
-use mathlib.Core.Path.{_≡_, ap}
+use mathlib.Core.Path.{_≡_, refl, ap}
 use mathlib.Core.Bool.{true, false}
 use mathlib.Core.List.{List}
 use Prim.Native.Nat.{ℕ, _+_, _*_, _≤_, _<_}
@@ -43,12 +43,12 @@ kind-small generator = omega arith
 kind-small mixedFiring = omega arith
 kind-small unknown = omega arith
 
--- the readings lie within the value
-pub readings-within : (kind : Kind) → readingsAt kind + readingsIn kind * readingLength ≤ sizeOf kind
-readings-within consumer = omega arith
-readings-within generator = omega arith
-readings-within mixedFiring = omega arith
-readings-within unknown = omega arith
+-- the readings fill the value behind its other parts
+pub readings-fill : (kind : Kind) → readingsAt kind + readingsIn kind * readingLength ≡ sizeOf kind
+readings-fill consumer = refl
+readings-fill generator = refl
+readings-fill mixedFiring = refl
+readings-fill unknown = refl
 
 -- the number of an unfit value is above those of the rows before it
 pub unfit-above : (kind : Kind) → 15 < unfitNumber kind

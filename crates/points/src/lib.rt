@@ -5,10 +5,10 @@ ghost use lib.ListN.{length, getD};
 ghost use Rattle.numbers.specs.Refusals.{firstOf};
 ghost use Rattle.heads.specs.Limits.{lowClass, extraHighClass};
 ghost use Rattle.numbers.specs.PointNumbers.{numberLength};
-ghost use Rattle.points.specs.Points.{kindOf, sizeOf, numberOf, readingsAt, readingsIn, hasLarge};
+ghost use Rattle.points.specs.Points.{kindOf, sizeOf, numberOf, readingsAt, hasLarge};
 ghost use Rattle.points.specs.Points.{tagRow, formRows, classRow, baselineRow, shareRow, unfitRow, valueRows};
 use numbers::NUMBER_LENGTH;
-use numbers::WINDOW_SLOTS;
+use readings::READING_LENGTH;
 
 // The tags of points, and the lengths of their values (specs/Points).
 pub const CONSUMER: u8 = 3;
@@ -22,11 +22,6 @@ pub const CONSUMER_LENGTH: usize = 5975;
 pub const GENERATOR_LENGTH: usize = 50;
 
 pub const MIXED_FIRING_LENGTH: usize = 72;
-
-// The readings of a consumer, and those of a mixed-firing plant, outside the tariff and inside it.
-pub const CONSUMER_READINGS: usize = 1488;
-
-const MIXED_FIRING_READINGS: usize = 12;
 
 // Where the parts of a value behind its number begin.
 pub const CLASS_AT: usize = 22;
@@ -78,7 +73,7 @@ pub fn value_length(tag: u8) -> usize
     }
 }
 
-// Where the readings begin in a value.
+// Where the readings begin in a value; they fill the rest of it.
 fn readings_at(tag: u8) -> usize
     ensures { λ r. ⌜ r ≡ readingsAt (kindOf tag) ⌝ }
 {
@@ -86,18 +81,6 @@ fn readings_at(tag: u8) -> usize
         CONSUMER => CONSUMER_READINGS_AT,
         GENERATOR => GENERATOR_READINGS_AT,
         MIXED_FIRING => MIXED_FIRING_READINGS_AT,
-        _ => 0,
-    }
-}
-
-// How many readings a value has.
-fn readings_in(tag: u8) -> usize
-    ensures { λ r. ⌜ r ≡ readingsIn (kindOf tag) ⌝ }
-{
-    match tag {
-        CONSUMER => CONSUMER_READINGS,
-        GENERATOR => WINDOW_SLOTS,
-        MIXED_FIRING => MIXED_FIRING_READINGS,
         _ => 0,
     }
 }
@@ -162,8 +145,9 @@ fn has_large(tag: u8, value: &[u8]) -> bool
     requires { ⌜ length (now value) ≡ sizeOf (kindOf tag) ⌝ }
     ensures { λ r. ⌜ r ≡ hasLarge (kindOf tag) (now (value .entry)) ⌝ }
 {
-    let count = readings_in(tag);
-    readings::first_large(&value[readings_at(tag)..], count) < count
+    let at = readings_at(tag);
+    let count = (value.len() - at) / READING_LENGTH;
+    readings::first_large(&value[at..], count) < count
 }
 
 // The point number at the front of a value.

@@ -136,7 +136,10 @@ fn mixed_firing_found(value: &[u8]) -> Found
     let mut j: usize = 0;
     while j < WINDOW_SLOTS {
         let outside = numbers::word32_at(value, MIXED_FIRING_READINGS_AT + j * READING_LENGTH);
-        let inside = numbers::word32_at(value, MIXED_FIRING_READINGS_AT + (WINDOW_SLOTS + j) * READING_LENGTH);
+        let inside = numbers::word32_at(
+            value,
+            MIXED_FIRING_READINGS_AT + (WINDOW_SLOTS + j) * READING_LENGTH,
+        );
         found[j] = mixed_firing_result(share, outside, inside);
         j += 1;
     }

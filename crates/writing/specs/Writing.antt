@@ -33,7 +33,7 @@ unfoldable pub headWritingOut : List ℕ → List ℕ → List ℕ → List ℕ
 headWritingOut head calendar out =
     cond (eqb (headWritingRefusal head calendar (length out)) 0) (atFront (writtenHead head calendar) out) out
 
--- A POINT. 'A point: 11, 12, 14, 16, 17. Then 40: too few bytes.'
+-- A POINT. 'A point: 11, 12, 14, 16, 17. Then 40: too few bytes.' CR 1: 50 in the place of 16.
 abbrev pub valueWritingTests : ℕ → List ℕ → List (Bool × ℕ)
 valueWritingTests tag value = formRows tag (length value) ++ numberRow (numberOf value) ++ valueRows tag value
 

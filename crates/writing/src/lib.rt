@@ -48,7 +48,7 @@ pub fn write_head(head: &[u8], calendar: &[u8], out: &mut [u8]) -> u32
     refusals::ACCEPTED
 }
 
-// What is refused in a point before room is looked for: 11, 12, 14, 16, 17.
+// What is refused in a point before room is looked for: 11, 12, 14, 16 or 50, 17.
 fn point_refusal(tag: u8, value: &[u8]) -> u32
     ensures { λ r. ⌜ r ≡ valueWritingRefusal tag (now (value .entry)) ⌝ }
 {
