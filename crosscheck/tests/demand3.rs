@@ -36,7 +36,7 @@ fn demand_3_holds_over_many_sequences() {
         seen.equal_contract_reached,
         seen.equal_without_remainder,
         seen.greater,
-        seen.greater_by_consumers_alone,
+        seen.greater_by_points_alone,
         seen.greater_by_total_alone,
         seen.settled_below_zero,
     ];
@@ -94,13 +94,78 @@ fn example_i_by_hand() {
     list.push(PointFields::Consumer(consumer_of_example_h(1, 241)));
     let account = account_of(&list);
     let parts = parts_of_a_kw(account.terms().unwrap());
-    assert_eq!(parts, 72_000 * 9_300 * 9_600 * 9_800);
+    assert_eq!(parts, 72_000_000 * 9_300 * 9_600 * 9_800);
     let exact = Fraction::new(account.closing().unwrap(), parts);
     let sold = Fraction::new(599_375, 100).times(1, 3_000);
     assert_eq!(exact, Fraction::whole(1_000).minus(sold));
     let calls = [adding(&list.points[0]), Call::Closing];
     let seen = demand3(&list.head.value(), &list.marks, &calls).unwrap();
-    assert_eq!((seen.greater, seen.greater_by_consumers_alone), (1, 0));
+    assert_eq!((seen.greater, seen.greater_by_points_alone), (1, 0));
+}
+
+#[test]
+fn a_plant_by_hand() {
+    // 100 × 0.667 = 66.7 in five slots and 102 × 0.667 = 68.034 in one make
+    // 401.534 Wh; printed is 0 kW.
+    let mut list = list_of_count(1);
+    list.push(plant(1, 333, 50, 50));
+    list.points[0].readings()[3] = 52;
+    let account = account_of(&list);
+    let parts = parts_of_a_kw(account.terms().unwrap());
+    let exact = Fraction::new(account.closing().unwrap(), parts);
+    let sold = Fraction::new(401_534, 1_000).times(1, 3_000);
+    assert_eq!(exact, Fraction::whole(1_000).minus(sold));
+    let calls = [adding(&list.points[0]), Call::Closing];
+    let seen = demand3(&list.head.value(), &list.marks, &calls).unwrap();
+    assert_eq!((seen.greater, seen.greater_by_points_alone), (1, 0));
+}
+
+#[test]
+fn parts_of_a_kw_are_the_same_with_and_without_plants() {
+    for point in a_point_of_each_kind(1) {
+        let mut list = list_of_count(1);
+        list.head.losses = [0; 3];
+        list.push(point);
+        let account = account_of(&list);
+        let parts = parts_of_a_kw(account.terms().unwrap());
+        assert_eq!(parts, 72_000_000 * 1_000_000_000_000);
+    }
+}
+
+#[test]
+fn plants_with_and_without_remainder() {
+    let seen = |points: &[PointFields], contract: u32| {
+        let mut list = List::new(Head::EXAMPLE_M);
+        points.iter().for_each(|point| list.push(point.clone()));
+        list.head.contract = contract;
+        let mut calls: Vec<Call> = list.points.iter().map(adding).collect();
+        calls.push(Call::Closing);
+        demand3(&list.head.value(), &list.marks, &calls).unwrap()
+    };
+    // 250.5 and 249.5 are whole together: 500 in each slot, 1 kW in all.
+    let whole = plant(1, 500, 501, 499);
+    assert_eq!(seen(&[whole], 1_000).equal_without_remainder, 1);
+    // 500.5 in each slot: 500 are printed, and 3,000 Wh leave no remainder.
+    let with_remainder = [plant(1, 500, 501, 500)];
+    let by_points = seen(&with_remainder, 1_000);
+    assert_eq!(
+        (by_points.greater, by_points.greater_by_points_alone),
+        (1, 1)
+    );
+    // A share of 1,000 gives 0 with no remainder.
+    let nothing = plant(1, 1_000, 777, 3);
+    assert_eq!(seen(&[nothing], 1_000).equal_without_remainder, 1);
+    // 501 in each slot leaves only the total's remainder.
+    let by_total = seen(&[plant(1, 500, 502, 500)], 1_000);
+    assert_eq!((by_total.greater, by_total.greater_by_total_alone), (1, 1));
+    // Settled reaches the contract: equal, whatever is left.
+    let reached = [plant(1, 1, 500_501, 0)]; // 500,000.499 a slot: 1,000 kW
+    assert_eq!(seen(&reached, 1_000).equal_contract_reached, 1);
+    assert_eq!(seen(&reached, 1_001).greater_by_points_alone, 1);
+    assert_eq!(seen(&with_remainder, 0).equal_contract_reached, 1);
+    // A remainder of the first point counts behind a generator without one.
+    let behind = [plant(1, 500, 501, 500), generator(2, 0, 500)];
+    assert_eq!(seen(&behind, 1_000).greater_by_points_alone, 1);
 }
 
 #[test]
@@ -168,8 +233,10 @@ fn beyond_the_allowance(list: &List) -> f64 {
 #[test]
 fn lists_at_the_allowance_come_near_it() {
     for seed in 0..200 {
-        let beyond = beyond_the_allowance(&consumers_near_allowance(&mut Random::new(seed)));
-        assert!((-0.0005..0.0).contains(&beyond), "{seed}: {beyond}");
+        for near in [consumers_near_allowance, plants_near_allowance] {
+            let beyond = beyond_the_allowance(&near(&mut Random::new(seed)));
+            assert!((-0.0005..0.0).contains(&beyond), "{seed}: {beyond}");
+        }
         // One kW more is a Wh of 3,000 below, at or above it.
         let beyond = beyond_the_allowance(&generators_at_allowance(&mut Random::new(seed))) + 1.0;
         assert!((-0.0004..0.0004).contains(&beyond), "{seed}: {beyond}");
@@ -179,11 +246,13 @@ fn lists_at_the_allowance_come_near_it() {
 #[test]
 fn one_remainder_alone_makes_the_printed_one_greater() {
     for seed in 0..200 {
-        let list = one_remainder(&mut Random::new(seed));
-        let mut calls: Vec<Call> = list.points.iter().map(adding).collect();
-        calls.push(Call::Closing);
-        let seen = demand3(&list.head.value(), &list.marks, &calls).unwrap();
-        assert_eq!(seen.greater_by_consumers_alone, 1, "{seed}");
+        for make in [one_remainder, one_remainder_of_a_plant] {
+            let list = make(&mut Random::new(seed));
+            let mut calls: Vec<Call> = list.points.iter().map(adding).collect();
+            calls.push(Call::Closing);
+            let seen = demand3(&list.head.value(), &list.marks, &calls).unwrap();
+            assert_eq!(seen.greater_by_points_alone, 1, "{seed}");
+        }
     }
 }
 
@@ -470,12 +539,9 @@ fn the_checker_tells_the_closings_apart() {
         adding(&list.points[1]),
         Call::Closing,
     ];
-    let by_consumers = demand3(&list.head.value(), &list.marks, &calls).unwrap();
+    let by_points = demand3(&list.head.value(), &list.marks, &calls).unwrap();
     assert_eq!(
-        (
-            by_consumers.greater,
-            by_consumers.greater_by_consumers_alone
-        ),
+        (by_points.greater, by_points.greater_by_points_alone),
         (1, 1)
     );
     list.points[1] = generator(2, 100, 0);

@@ -4,7 +4,7 @@
 mod writing;
 
 use super::{Call, MOST_BYTES, MOST_PLACES};
-use crate::books::edges::{ALLOWED_DATES, OTHER_DATES};
+use crate::books::edges::{ALLOWED_DATES, OTHER_DATES, SHARES};
 use crate::books::fields::*;
 use crate::books::lists::*;
 use crate::books::random::Random;
@@ -30,6 +30,10 @@ pub fn stored_calls() -> Vec<Call> {
         consumer_faults(),
         eligible_days_left(),
         seeded_lists(),
+        plant_faults(),
+        plant_lengths_places_and_days(),
+        plant_edges(),
+        plant_divisions(),
         writing::writing_calls(),
     ];
     parts.concat()
@@ -63,6 +67,14 @@ const CONTRACTS: [u32; 10] = [
 ];
 const COUNTS: [u32; 9] = [0, 1, 2, 255, 256, 9_999, 10_000, 10_001, 65_535];
 const MARKS: [u8; 5] = [1, 2, 3, 4, 255];
+const READINGS: [u32; 6] = [
+    0,
+    1,
+    HIGHEST_READING - 1,
+    HIGHEST_READING,
+    HIGHEST_READING + 1,
+    u32::MAX,
+];
 
 fn opening(head: Head, marks: [u8; DAYS_BACK]) -> Call {
     Call::Opening {
@@ -182,7 +194,8 @@ fn opening_dates() -> Vec<Call> {
     dates.iter().map(opening_on).collect()
 }
 
-/// Whether a set of faults holds one; the bit of a fault is its refusal.
+/// Whether a set of faults holds one; the bit of a fault is its refusal, and 50
+/// has that of 16, at whose place it stands.
 fn holds(faults: u32, refusal: u32) -> bool {
     faults >> refusal & 1 == 1
 }
@@ -392,7 +405,7 @@ fn faulty_generator(faults: u32) -> Call {
     }
     Call::Adding {
         state,
-        tag: if holds(faults, 11) { 5 } else { GENERATOR_TAG },
+        tag: if holds(faults, 11) { 6 } else { GENERATOR_TAG },
         places: lent(if holds(faults, 13) { 7 } else { 6 }),
         value,
     }
@@ -414,11 +427,11 @@ fn adding_tags_and_lengths() -> Vec<Call> {
         calls.push(adding(&state, tag, value));
     };
     for tag in [0, 1, 2, 3, 4, 5, 6, 7, 127, 128, 255] {
-        for length in [0, 1, 17, 21, 22, 23, 26, 30, 49, 50, 51, 72] {
+        for length in [0, 1, 17, 21, 22, 23, 26, 30, 49, 50, 51, 71, 72, 73] {
             with(tag, length);
         }
     }
-    for tag in [CONSUMER_TAG, GENERATOR_TAG] {
+    for tag in [CONSUMER_TAG, GENERATOR_TAG, MIXED_FIRING_TAG] {
         for length in [5_974, 5_975, 5_976, MOST_BYTES] {
             with(tag, length);
         }
@@ -479,17 +492,9 @@ fn adding_numbers() -> Vec<Call> {
 fn generator_edges() -> Vec<Call> {
     let state = begun_state();
     let mut calls = Vec::new();
-    let readings = [
-        0,
-        1,
-        HIGHEST_READING - 1,
-        HIGHEST_READING,
-        HIGHEST_READING + 1,
-        u32::MAX,
-    ];
     for baseline in [0, 1, 999_999, 1_000_000, 1_000_001, 1 << 24, u32::MAX] {
         for slot in 0..WINDOW_SLOTS {
-            for reading in readings {
+            for reading in READINGS {
                 let mut generator = GeneratorFields::flat(LAST + 1, baseline, 250_000_000);
                 generator.readings[slot] = reading;
                 calls.push(adding(&state, GENERATOR_TAG, generator.value()));
@@ -600,7 +605,7 @@ fn calls_of_lists(kinds: &[(Kind, usize)], seed: u64) -> Vec<Call> {
 
 /// Seeded lists of each kind, more of those with few consumers.
 fn seeded_lists() -> Vec<Call> {
-    let kinds: [(Kind, usize); 14] = [
+    let kinds: [(Kind, usize); 18] = [
         (ties, 8),
         (quarter_rule_limit, 12),
         (several_dropped, 8),
@@ -615,6 +620,106 @@ fn seeded_lists() -> Vec<Call> {
         (ordinary, 4),
         (total_near_multiple, 40),
         (many_generators, 4),
+        (mixed_firing_plants, 10),
+        (boundary_plant, 16),
+        (highest_plants, 5),
+        (contract_near_plants, 12),
     ];
     calls_of_lists(&kinds, 8_796)
+}
+
+/// Adding a mixed-firing plant with the faults of a set, 9 to 17, where 16
+/// stands for 50.
+fn faulty_plant(faults: u32) -> Call {
+    let mut state = begun_state();
+    state.terms.head.contract = if holds(faults, 9) { 999 } else { 0 };
+    state.terms.head.count = if holds(faults, 10) { 1 } else { 2 };
+    let number = if holds(faults, 15) { LAST } else { LAST + 1 };
+    let mut plant = MixedFiringFields::flat(number, WHOLE_SHARE, HIGHEST_READING, HIGHEST_READING);
+    if holds(faults, 14) {
+        plant.number[9] = b':';
+    }
+    plant.share += u16::from(holds(faults, 16));
+    plant.readings[11] += u32::from(holds(faults, 17));
+    let mut value = plant.value();
+    if holds(faults, 12) {
+        value.pop();
+    }
+    Call::Adding {
+        state,
+        tag: if holds(faults, 11) {
+            6
+        } else {
+            MIXED_FIRING_TAG
+        },
+        places: lent(if holds(faults, 13) { 5 } else { 6 }),
+        value,
+    }
+}
+
+/// Every set of the faults 9 to 17 of a mixed-firing plant.
+fn plant_faults() -> Vec<Call> {
+    let sets = sets_of(&[9, 10, 11, 12, 13, 14, 15, 16, 17]);
+    sets.into_iter().map(faulty_plant).collect()
+}
+
+/// A mixed-firing plant with 0 to 8 lent places; its value with the tags of the
+/// other kinds; and with no eligible day, which it does not need.
+fn plant_lengths_places_and_days() -> Vec<Call> {
+    let mut state = begun_state();
+    let value = MixedFiringFields::flat(LAST + 1, 250, 40_001, 30_000).value();
+    let mut calls = Vec::new();
+    for count in 0..=MOST_PLACES {
+        calls.push(Call::Adding {
+            state,
+            tag: MIXED_FIRING_TAG,
+            places: lent(count),
+            value: value.clone(),
+        });
+    }
+    for tag in [CONSUMER_TAG, GENERATOR_TAG, 6] {
+        calls.push(adding(&state, tag, value.clone()));
+    }
+    state.terms.marks = [1; DAYS_BACK];
+    calls.push(adding(&state, MIXED_FIRING_TAG, value));
+    calls
+}
+
+/// A mixed-firing plant's share and each of its twelve readings at the edges.
+fn plant_edges() -> Vec<Call> {
+    let state = begun_state();
+    let mut calls = Vec::new();
+    for share in SHARES {
+        for place in 0..MIXED_FIRING_READINGS {
+            for reading in READINGS {
+                let mut plant = MixedFiringFields::flat(LAST + 1, share, 250_000_007, 3);
+                plant.readings[place] = reading;
+                calls.push(adding(&state, MIXED_FIRING_TAG, plant.value()));
+            }
+        }
+    }
+    calls
+}
+
+/// Divisions of a mixed-firing plant around a whole quotient, the two readings
+/// in any parts: only together they are a multiple of 1,000.
+fn plant_divisions() -> Vec<Call> {
+    let state = begun_state();
+    let mut calls = Vec::new();
+    for share in [0, 1, 2, 333, 499, 500, 501, 666, 998, 999, 1_000] {
+        for outside in [0, 1, 499, 500, 999, 1_000, 1_001] {
+            let mut plant = MixedFiringFields::flat(LAST + 1, share, outside, 0);
+            let inside = [
+                0,
+                1_000 - outside % 1_000,
+                1_999 - outside % 1_000,
+                1,
+                999,
+                2_001,
+            ];
+            plant.readings[WINDOW_SLOTS..].copy_from_slice(&inside);
+            calls.push(adding(&state, MIXED_FIRING_TAG, plant.value()));
+        }
+    }
+    calls
 }
