@@ -18,17 +18,33 @@ const SEQUENCES: u64 = 60_000;
 
 #[test]
 fn demand_3_holds_over_many_sequences() {
-    let mut seen = Seen::default();
+    let mut seen = [Seen::default(); 2]; // without plants, with plants
     let mut kinds = BTreeSet::new();
     for seed in 0..SEQUENCES {
         let sequence = seeded_sequence(seed);
         let held = demand3(&sequence.head, &sequence.calendar, &sequence.calls);
-        seen = seen.and(held.unwrap_or_else(|breach| panic!("seed {seed}: {breach:?}")));
+        let held = held.unwrap_or_else(|breach| panic!("seed {seed}: {breach:?}"));
+        let of_its_kind = &mut seen[usize::from(has_plants(&sequence))];
+        *of_its_kind = of_its_kind.and(held);
         kinds.insert(sequence.kind);
     }
     println!("{SEQUENCES} sequences of {} kinds: {seen:?}", kinds.len());
     assert_eq!(kinds.len(), KINDS.len() + SHORTFALL_KINDS.len());
-    let counts = [
+    for (seen, least) in seen.iter().zip([300, 50]) {
+        let counts = counts_of(seen);
+        assert!(counts.iter().all(|&times| times >= least), "{seen:?}");
+    }
+}
+
+/// Whether a sequence adds a mixed-firing plant.
+fn has_plants(sequence: &Sequence) -> bool {
+    let of_plant = |call: &Call| matches!(call, Call::Adding { tag: 5, .. });
+    sequence.calls.iter().any(of_plant)
+}
+
+/// All counts of what was seen.
+fn counts_of(seen: &Seen) -> [u64; 10] {
+    [
         seen.refused_openings,
         seen.accepted_addings,
         seen.refused_addings,
@@ -39,8 +55,7 @@ fn demand_3_holds_over_many_sequences() {
         seen.greater_by_points_alone,
         seen.greater_by_total_alone,
         seen.settled_below_zero,
-    ];
-    assert!(counts.iter().all(|&times| times >= 300), "{seen:?}");
+    ]
 }
 
 /// The exact shortfall of a list in kW, from naive fractions of every point.
