@@ -2,7 +2,7 @@
 //! refused unless the kind says so.
 
 use super::edges;
-use super::faults::{head_faults, point_faults};
+use super::faults::{head_faults, plant_faults, point_faults};
 use super::fields::*;
 use super::random::Random;
 use crate::book::settle_fields;
@@ -14,7 +14,7 @@ use crate::terms::{contract_is_allowed, Terms};
 pub type Kind = fn(&mut Random) -> List;
 
 /// All kinds with their names.
-pub const KINDS: [(&str, Kind); 28] = [
+pub const KINDS: [(&str, Kind); 29] = [
     ("ordinary", ordinary),
     ("boundary head", boundary_head),
     ("boundary calendar", boundary_calendar),
@@ -46,6 +46,7 @@ pub const KINDS: [(&str, Kind); 28] = [
     ("boundary plant", boundary_plant),
     ("highest plants", highest_plants),
     ("contract near plants", contract_near_plants),
+    ("faults of a plant", plant_faults),
 ];
 
 /// A test day that opening accepts.

@@ -1,6 +1,7 @@
 //! Stored calls of writing: what openings and addings are given, with lent
 //! bytes of lengths around the one that is due.
 
+use super::plants::{faulty_plant, plant_edges};
 use super::*;
 
 /// Lengths of lent bytes, counted from the one that is due, in turns; the
