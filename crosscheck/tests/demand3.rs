@@ -153,9 +153,7 @@ fn plants_with_and_without_remainder() {
         let mut list = List::new(Head::EXAMPLE_M);
         points.iter().for_each(|point| list.push(point.clone()));
         list.head.contract = contract;
-        let mut calls: Vec<Call> = list.points.iter().map(adding).collect();
-        calls.push(Call::Closing);
-        demand3(&list.head.value(), &list.marks, &calls).unwrap()
+        seen_of(&list)
     };
     // 250.5 and 249.5 are whole together: 500 in each slot, 1 kW in all.
     let whole = plant(1, 500, 501, 499);
@@ -223,6 +221,27 @@ fn ten_thousand_points_come_near_the_allowance() {
     assert!(printed_less_exact(&list, &calls) > 20.99); // allowed: below 21
 }
 
+#[test]
+fn ten_thousand_plants_come_near_the_allowance() {
+    // Each slot of a plant gives 5,000.999 Wh, of which 5,000 are counted; the
+    // last plant has 1 Wh less, so that the total is 299,999,999 Wh. Exactly it
+    // is 59,940 Wh more: 100,019.97966.. kW beside 99,999 kW.
+    let mut list = list_of_count(10_000);
+    list.head.contract = 10_000_000;
+    let mut calls = Vec::new();
+    for number in 0..9_999 {
+        calls.push(adding(&plant(number, 999, 5_000_000, 999)));
+    }
+    let mut last = plant(9_999, 999, 5_000_000, 999);
+    last.readings()[0] -= 1_000;
+    calls.push(adding(&last));
+    let off = printed_less_exact(&list, &calls);
+    assert!((20.97966..20.97967).contains(&off), "{off}"); // allowed: below 21
+    calls.push(Call::Closing);
+    let seen = demand3(&list.head.value(), &list.marks, &calls).unwrap();
+    assert_eq!((seen.accepted_addings, seen.greater), (10_000, 1));
+}
+
 /// Printed less exact shortfall in kW after a sequence of accepted addings.
 fn printed_less_exact(list: &List, calls: &[Call]) -> f64 {
     let mut state = opened(list);
@@ -258,16 +277,22 @@ fn lists_at_the_allowance_come_near_it() {
     }
 }
 
+/// What demand 3 shows of a list whose points are added and then closed.
+fn seen_of(list: &List) -> Seen {
+    let mut calls: Vec<Call> = list.points.iter().map(adding).collect();
+    calls.push(Call::Closing);
+    demand3(&list.head.value(), &list.marks, &calls).unwrap()
+}
+
 #[test]
 fn one_remainder_alone_makes_the_printed_one_greater() {
     for seed in 0..200 {
         for make in [one_remainder, one_remainder_of_a_plant] {
-            let list = make(&mut Random::new(seed));
-            let mut calls: Vec<Call> = list.points.iter().map(adding).collect();
-            calls.push(Call::Closing);
-            let seen = demand3(&list.head.value(), &list.marks, &calls).unwrap();
+            let seen = seen_of(&make(&mut Random::new(seed)));
             assert_eq!(seen.greater_by_points_alone, 1, "{seed}");
         }
+        let seen = seen_of(&plants_whole_together(&mut Random::new(seed)));
+        assert_eq!(seen.equal_without_remainder, 1, "{seed}");
     }
 }
 

@@ -7,12 +7,13 @@ use super::random::Random;
 use crate::limits::*;
 
 /// The kinds of them with their names.
-pub const SHORTFALL_KINDS: [(&str, Kind); 5] = [
+pub const SHORTFALL_KINDS: [(&str, Kind); 6] = [
     ("consumers near the allowance", consumers_near_allowance),
     ("generators at the allowance", generators_at_allowance),
     ("one remainder", one_remainder),
     ("plants near the allowance", plants_near_allowance),
     ("one remainder of a plant", one_remainder_of_a_plant),
+    ("plants whole together", plants_whole_together),
 ];
 
 /// Two watts a point, in Wh of the window.
@@ -118,6 +119,21 @@ pub fn one_remainder_of_a_plant(random: &mut Random) -> List {
     plant.share = random.one_of(&[1, 333, 500, WHOLE_SHARE - 1, any, any]);
     plant.readings[random.place(MIXED_FIRING_READINGS)] += 1;
     list.push(PointFields::MixedFiring(plant));
+    let generator = filling_generator(random, &list);
+    list.push(PointFields::Generator(generator));
+    list
+}
+
+/// Mixed-firing plants whose divisions are whole, while each of the two readings
+/// divided by itself mostly is not, and a total that is a multiple of 3,000:
+/// printed and exact shortfall are the same.
+pub fn plants_whole_together(random: &mut Random) -> List {
+    let mut list = begun(random);
+    list.head.contract = HIGHEST_CONTRACT;
+    for _ in 0..random.between(1, 3) {
+        let plant = whole_plant(random, &list);
+        list.push(PointFields::MixedFiring(plant));
+    }
     let generator = filling_generator(random, &list);
     list.push(PointFields::Generator(generator));
     list
