@@ -1,15 +1,20 @@
-//! The exact account of demand 3 ("Closing figures"), in whole parts of a kW.
+//! The exact account of demand 3 ("Closing figures"), in whole parts of a kW,
+//! of which change request 1 makes 1,000 times as many.
 //!
 //! It is fed what the calls are given except the state, and nothing of the
 //! program's answers.
 
 use crate::ledger::{results_of, take_point, Held, Taken, NO_LAST_NUMBER};
 use crate::limits::*;
-use crate::slots::{generator_results, loss_division, reductions};
+use crate::point::MixedFiring;
+use crate::slots::{generator_results, loss_division, reductions, share_division, Division};
 use crate::terms::Terms;
 
-/// 72,000 = 3,000 Wh of a settled kW × 24 parts of a Wh.
-const PARTS_FACTOR: i128 = WH_OF_A_SETTLED_KW * PARTS_OF_A_WH;
+/// The divisor of a mixed-firing plant's slot results.
+const SHARE_DIVISOR: i128 = WHOLE_SHARE as i128;
+
+/// 72,000,000 = 3,000 Wh of a settled kW × 24 parts of a Wh × 1,000 of a share.
+const PARTS_FACTOR: i128 = WH_OF_A_SETTLED_KW * PARTS_OF_A_WH * SHARE_DIVISOR;
 
 /// The product of the three (10,000 − loss).
 fn product_after_losses(terms: &Terms) -> i128 {
@@ -33,13 +38,22 @@ pub fn exact_sum(terms: &Terms, taken: &Taken) -> i128 {
             let reduced: i128 = reductions(consumer, terms.head.first_slot, days)
                 .iter()
                 .sum();
-            reduced * i128::from(WHOLE) * others
+            reduced * i128::from(WHOLE) * others * SHARE_DIVISOR
         }
         Taken::Generator(generator) => {
             let delivered: i64 = generator_results(generator).iter().sum();
-            i128::from(delivered) * PARTS_OF_A_WH * product
+            i128::from(delivered) * PARTS_OF_A_WH * SHARE_DIVISOR * product
+        }
+        Taken::MixedFiring(plant) => {
+            let dividends: i128 = share_divisions(plant).map(|(dividend, _)| dividend).sum();
+            dividends * PARTS_OF_A_WH * product
         }
     }
+}
+
+/// The six divisions of a mixed-firing plant.
+fn share_divisions<'a>(plant: &'a MixedFiring) -> impl Iterator<Item = Division> + 'a {
+    (0..WINDOW_SLOTS).map(|slot| share_division(plant, slot))
 }
 
 /// What the account holds; without terms its opening was refused.
@@ -98,25 +112,26 @@ impl Account {
     }
 }
 
-/// The divisions demand 3 speaks of: six of each consumer taken, and that of
-/// the total of the rounded results by 3,000.
+/// The divisions demand 3 speaks of: six of each consumer and of each
+/// mixed-firing plant taken, and that of the total of the rounded results by
+/// 3,000.
 #[derive(Clone, Copy, Debug, Default)]
 pub struct Divisions {
-    consumer_left_remainder: bool,
+    point_left_remainder: bool,
     rounded_total: i128,
 }
 
 impl Divisions {
     /// The divisions of one more point.
     pub fn take(&mut self, terms: &Terms, taken: &Taken) {
-        self.consumer_left_remainder |= leaves_remainder(terms, taken);
+        self.point_left_remainder |= leaves_remainder(terms, taken);
         let rounded: i64 = results_of(terms, taken).iter().sum();
         self.rounded_total += i128::from(rounded);
     }
 
-    /// Whether a consumer's division left a remainder.
-    pub fn consumer_left_remainder(&self) -> bool {
-        self.consumer_left_remainder
+    /// Whether a division of a point left a remainder.
+    pub fn point_left_remainder(&self) -> bool {
+        self.point_left_remainder
     }
 
     /// Whether the division of the total leaves a remainder.
@@ -125,14 +140,23 @@ impl Divisions {
     }
 }
 
-/// Whether one of a point's own divisions is not whole; a generator has none.
+/// A point's own divisions, one for each slot; a generator has none.
+fn divisions_of(terms: &Terms, taken: &Taken) -> Vec<Division> {
+    match taken {
+        Taken::Consumer(consumer, days) => {
+            let loss = terms.head.loss_of_class(consumer.class());
+            reductions(consumer, terms.head.first_slot, days)
+                .map(|reduction| loss_division(reduction, loss))
+                .to_vec()
+        }
+        Taken::Generator(_) => Vec::new(),
+        Taken::MixedFiring(plant) => share_divisions(plant).collect(),
+    }
+}
+
+/// Whether one of a point's own divisions is not whole.
 fn leaves_remainder(terms: &Terms, taken: &Taken) -> bool {
-    let Taken::Consumer(consumer, days) = taken else {
-        return false;
-    };
-    let loss = terms.head.loss_of_class(consumer.class());
-    reductions(consumer, terms.head.first_slot, days)
-        .iter()
-        .map(|&reduction| loss_division(reduction, loss))
+    divisions_of(terms, taken)
+        .into_iter()
         .any(|(dividend, divisor)| dividend % divisor != 0)
 }

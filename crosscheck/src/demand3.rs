@@ -69,9 +69,9 @@ pub struct Seen {
     pub equal_without_remainder: u64,
     /// Closings where the printed shortfall is greater.
     pub greater: u64,
-    /// Of the greater ones: a consumer's division left a remainder, the
-    /// total's did not.
-    pub greater_by_consumers_alone: u64,
+    /// Of the greater ones: a point's division left a remainder, the total's
+    /// did not.
+    pub greater_by_points_alone: u64,
     /// Of the greater ones: only the total's division left a remainder.
     pub greater_by_total_alone: u64,
     /// Accepted closings with settled below zero.
@@ -89,8 +89,7 @@ impl Seen {
             equal_contract_reached: self.equal_contract_reached + other.equal_contract_reached,
             equal_without_remainder: self.equal_without_remainder + other.equal_without_remainder,
             greater: self.greater + other.greater,
-            greater_by_consumers_alone: self.greater_by_consumers_alone
-                + other.greater_by_consumers_alone,
+            greater_by_points_alone: self.greater_by_points_alone + other.greater_by_points_alone,
             greater_by_total_alone: self.greater_by_total_alone + other.greater_by_total_alone,
             settled_below_zero: self.settled_below_zero + other.settled_below_zero,
         }
@@ -197,9 +196,9 @@ impl<'p, P: Program> Run<'p, P> {
         let kw = parts_of_a_kw(terms);
         let printed = i128::from(figures.shortfall) * kw;
         let reached = figures.settled >= i64::from(terms.head.contract);
-        let by_consumers = self.divisions.consumer_left_remainder();
+        let by_points = self.divisions.point_left_remainder();
         let by_total = self.divisions.total_leaves_remainder();
-        let equal_due = reached || !(by_consumers || by_total);
+        let equal_due = reached || !(by_points || by_total);
         hold(
             (printed == exact) == equal_due,
             "equal, but not exactly where due",
@@ -210,20 +209,20 @@ impl<'p, P: Program> Run<'p, P> {
             hold(printed > exact, "printed shortfall not greater")?;
             hold(printed - exact < allowance, "printed shortfall too far off")?;
         }
-        self.count_closing(reached, by_consumers, by_total, figures.settled < 0);
+        self.count_closing(reached, by_points, by_total, figures.settled < 0);
         Ok(())
     }
 
-    fn count_closing(&mut self, reached: bool, consumers: bool, total: bool, below_zero: bool) {
+    fn count_closing(&mut self, reached: bool, points: bool, total: bool, below_zero: bool) {
         let seen = &mut self.seen;
         seen.settled_below_zero += u64::from(below_zero);
-        match (reached, consumers, total) {
+        match (reached, points, total) {
             (true, ..) => seen.equal_contract_reached += 1,
             (false, false, false) => seen.equal_without_remainder += 1,
             _ => seen.greater += 1,
         }
-        seen.greater_by_consumers_alone += u64::from(!reached && consumers && !total);
-        seen.greater_by_total_alone += u64::from(!reached && total && !consumers);
+        seen.greater_by_points_alone += u64::from(!reached && points && !total);
+        seen.greater_by_total_alone += u64::from(!reached && total && !points);
     }
 }
 

@@ -2,9 +2,12 @@
 
 use crate::choosing::{choose_days, ChosenDays};
 use crate::limits::*;
-use crate::point::{number_is_allowed, Consumer, Generator, Point};
+use crate::point::{number_is_allowed, Consumer, Generator, MixedFiring, Point};
 use crate::refusals::*;
-use crate::slots::{consumer_results, divide_down, generator_results, window_sums, SlotResults};
+use crate::slots::{
+    consumer_results, divide_down, generator_results, mixed_firing_results, window_sums,
+    SlotResults,
+};
 use crate::terms::{Head, Terms};
 
 /// The settlement state. Its fields are plain numbers and may hold anything:
@@ -90,9 +93,11 @@ pub enum Taken<'a> {
     Consumer(Consumer<'a>, ChosenDays),
     /// A generator.
     Generator(Generator<'a>),
+    /// A mixed-firing plant.
+    MixedFiring(MixedFiring<'a>),
 }
 
-/// Rules 10 to 18 of adding, in the paper's order.
+/// Rules 10 to 18 of adding, in the paper's order; 50 stands at the place of 16.
 pub fn take_point<'a>(
     held: &Held,
     tag: u8,
@@ -105,13 +110,14 @@ pub fn take_point<'a>(
     point.check_number()?; // 14
     let number = point.number();
     refuse_where(held.points > 0 && number <= *held.last, NOT_ABOVE_LAST)?;
-    point.check_class_or_baseline()?; // 16
+    point.check_class_baseline_or_share()?; // 16 or 50
     point.check_readings()?; // 17
     let taken = match point {
         Point::Consumer(consumer) => {
             Taken::Consumer(consumer, days_of_consumer(held.terms, &consumer)?)
         }
         Point::Generator(generator) => Taken::Generator(generator),
+        Point::MixedFiring(plant) => Taken::MixedFiring(plant),
     };
     Ok((taken, number))
 }
@@ -130,6 +136,7 @@ pub fn results_of(terms: &Terms, taken: &Taken) -> SlotResults {
             consumer_results(consumer, terms.head.first_slot, days, loss)
         }
         Taken::Generator(generator) => generator_results(generator),
+        Taken::MixedFiring(plant) => mixed_firing_results(plant),
     }
 }
 

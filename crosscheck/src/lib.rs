@@ -1,7 +1,8 @@
 //! A separate settlement of the effectiveness test ledger.
 //!
-//! Written from document 01 alone, so that it can disagree with the product.
-//! Each module is one section of that paper; "rule N" means refusal N of it.
+//! Written from document 01 and change request 1 alone, so that it can disagree
+//! with the product. Each module is one section of document 01; "rule N" means
+//! refusal N.
 
 #![forbid(unsafe_code)]
 #![warn(missing_docs)]

@@ -1,4 +1,4 @@
-//! The fixed numbers of document 01, each named once.
+//! The fixed numbers of document 01 and change request 1, each named once.
 
 /// First and last year of the dates ("Days").
 pub const FIRST_YEAR: u16 = 2020;
@@ -45,6 +45,8 @@ pub const HIGHEST_COUNT: u32 = 10_000;
 pub const SLOT_TOTAL_OF_A_POINT: i128 = 4_000_000_000;
 /// Highest baseline of a generator, in kW (rule 16).
 pub const HIGHEST_GENERATOR_BASELINE: u32 = 1_000_000;
+/// The whole, in tenths of a percent: no biomass share is above it (rule 50).
+pub const WHOLE_SHARE: u16 = 1_000;
 /// Highest reading, in Wh (rule 17).
 pub const HIGHEST_READING: u32 = 1_000_000_000;
 
@@ -67,6 +69,8 @@ pub const CALENDAR_TAG: u8 = 2;
 pub const CONSUMER_TAG: u8 = 3;
 /// Tag of a generator.
 pub const GENERATOR_TAG: u8 = 4;
+/// Tag of a mixed-firing plant.
+pub const MIXED_FIRING_TAG: u8 = 5;
 /// Bytes of a head value.
 pub const HEAD_LENGTH: usize = 17;
 /// Bytes of a calendar value.
@@ -81,6 +85,10 @@ pub const READING_LENGTH: usize = 4;
 pub const CONSUMER_LENGTH: usize = 5_975;
 /// Bytes of a generator value.
 pub const GENERATOR_LENGTH: usize = 50;
+/// Readings of a mixed-firing plant: six outside the feed-in tariff, six inside.
+pub const MIXED_FIRING_READINGS: usize = 2 * WINDOW_SLOTS;
+/// Bytes of a mixed-firing plant's value.
+pub const MIXED_FIRING_LENGTH: usize = 72;
 /// Bytes of a written head with its calendar.
 pub const WRITTEN_HEAD_LENGTH: usize = 53;
 /// Bytes of the result of a whole book.

@@ -1,4 +1,5 @@
-//! The points of a list as their fields hold them, and rules 11, 12, 14, 16 and 17.
+//! The points of a list as their fields hold them, and rules 11, 12, 14, 16 or
+//! 50, and 17.
 
 use crate::limits::*;
 use crate::refusals::*;
@@ -11,14 +12,17 @@ pub enum Kind {
     Consumer,
     /// Tag 4.
     Generator,
+    /// Tag 5.
+    MixedFiring,
 }
 
 impl Kind {
-    /// Rule 11: tag not 3 or 4.
+    /// Rule 11: tag not 3, 4 or 5.
     pub fn of_tag(tag: u8) -> Result<Kind, Refusal> {
         match tag {
             CONSUMER_TAG => Ok(Kind::Consumer),
             GENERATOR_TAG => Ok(Kind::Generator),
+            MIXED_FIRING_TAG => Ok(Kind::MixedFiring),
             _ => Err(POINT_TAG),
         }
     }
@@ -28,6 +32,7 @@ impl Kind {
         let due = match self {
             Kind::Consumer => CONSUMER_LENGTH,
             Kind::Generator => GENERATOR_LENGTH,
+            Kind::MixedFiring => MIXED_FIRING_LENGTH,
         };
         refuse_where(length != due, POINT_LENGTH)
     }
@@ -45,6 +50,13 @@ pub struct Generator<'a> {
     value: &'a [u8],
 }
 
+/// A mixed-firing plant's value: point number, biomass share in tenths of a
+/// percent, six readings outside the feed-in tariff, six inside it.
+#[derive(Clone, Copy, Debug)]
+pub struct MixedFiring<'a> {
+    value: &'a [u8],
+}
+
 /// A point of the list.
 #[derive(Clone, Copy, Debug)]
 pub enum Point<'a> {
@@ -52,12 +64,16 @@ pub enum Point<'a> {
     Consumer(Consumer<'a>),
     /// A generator.
     Generator(Generator<'a>),
+    /// A mixed-firing plant.
+    MixedFiring(MixedFiring<'a>),
 }
 
 /// Where a consumer's readings begin: behind number and class.
 const CONSUMER_READINGS_BEGIN: usize = NUMBER_LENGTH + 1;
 /// Where a generator's readings begin: behind number and baseline.
 const GENERATOR_READINGS_BEGIN: usize = NUMBER_LENGTH + 4;
+/// Where a mixed-firing plant's readings begin: behind number and share.
+const MIXED_FIRING_READINGS_BEGIN: usize = NUMBER_LENGTH + 2;
 
 /// The reading at a place among readings of four bytes.
 fn reading_at(readings: &[u8], place: usize) -> u32 {
@@ -90,6 +106,24 @@ impl Generator<'_> {
     }
 }
 
+impl MixedFiring<'_> {
+    /// The biomass share in tenths of a percent.
+    pub fn share(&self) -> u16 {
+        whole_number(&self.value[NUMBER_LENGTH..MIXED_FIRING_READINGS_BEGIN]) as u16
+    }
+
+    /// The reading outside the feed-in tariff of a window slot, 0 to 5.
+    pub fn outside(&self, slot: usize) -> u32 {
+        reading_at(&self.value[MIXED_FIRING_READINGS_BEGIN..], slot)
+    }
+
+    /// The reading inside the feed-in tariff of a window slot, 0 to 5.
+    pub fn inside(&self, slot: usize) -> u32 {
+        let readings = &self.value[MIXED_FIRING_READINGS_BEGIN..];
+        reading_at(readings, WINDOW_SLOTS + slot)
+    }
+}
+
 impl<'a> Point<'a> {
     /// The point of a tag and value: rules 11 and 12.
     pub fn cut(tag: u8, value: &'a [u8]) -> Result<Point<'a>, Refusal> {
@@ -98,6 +132,7 @@ impl<'a> Point<'a> {
         Ok(match kind {
             Kind::Consumer => Point::Consumer(Consumer { value }),
             Kind::Generator => Point::Generator(Generator { value }),
+            Kind::MixedFiring => Point::MixedFiring(MixedFiring { value }),
         })
     }
 
@@ -105,6 +140,7 @@ impl<'a> Point<'a> {
         match self {
             Point::Consumer(consumer) => consumer.value,
             Point::Generator(generator) => generator.value,
+            Point::MixedFiring(plant) => plant.value,
         }
     }
 
@@ -120,13 +156,21 @@ impl<'a> Point<'a> {
         refuse_where(!number_is_allowed(&self.number()), NUMBER)
     }
 
-    /// Rule 16: class not 1 to 3, or baseline above 1,000,000.
-    pub fn check_class_or_baseline(&self) -> Result<(), Refusal> {
-        let fits = match self {
-            Point::Consumer(consumer) => !(1..=CLASSES).contains(&usize::from(consumer.class())),
-            Point::Generator(generator) => generator.baseline() > HIGHEST_GENERATOR_BASELINE,
+    /// Rule 16: class not 1 to 3, or baseline above 1,000,000. At its place rule
+    /// 50: share above 1,000.
+    pub fn check_class_baseline_or_share(&self) -> Result<(), Refusal> {
+        let (fits, refusal) = match self {
+            Point::Consumer(consumer) => {
+                let allowed = (1..=CLASSES).contains(&usize::from(consumer.class()));
+                (!allowed, CLASS_OR_BASELINE)
+            }
+            Point::Generator(generator) => {
+                let above = generator.baseline() > HIGHEST_GENERATOR_BASELINE;
+                (above, CLASS_OR_BASELINE)
+            }
+            Point::MixedFiring(plant) => (plant.share() > WHOLE_SHARE, SHARE),
         };
-        refuse_where(fits, CLASS_OR_BASELINE)
+        refuse_where(fits, refusal)
     }
 
     /// Rule 17: any reading above 1,000,000,000, used or not.
@@ -134,6 +178,7 @@ impl<'a> Point<'a> {
         let begin = match self {
             Point::Consumer(_) => CONSUMER_READINGS_BEGIN,
             Point::Generator(_) => GENERATOR_READINGS_BEGIN,
+            Point::MixedFiring(_) => MIXED_FIRING_READINGS_BEGIN,
         };
         let mut readings = self.value()[begin..].chunks_exact(READING_LENGTH);
         let fits = readings.any(|reading| whole_number(reading) > HIGHEST_READING);

@@ -1,7 +1,8 @@
 //! The refusal numbers ("Operations and their refusals"), each named once.
 //!
-//! The rising order of the numbers is the order of each table, but for the
-//! whole book, whose order stands in `book.rs`.
+//! The rising order of the numbers is the order of each table, but for 50,
+//! which stands at the place of 16, and for the whole book, whose order stands
+//! in `book.rs`.
 
 /// The number a call answers; a refusal is any of them but [`ACCEPTED`].
 pub type Refusal = u32;
@@ -30,7 +31,7 @@ pub const MARK: Refusal = 8;
 pub const STATE: Refusal = 9;
 /// Adding: count already reached.
 pub const COUNT_REACHED: Refusal = 10;
-/// Adding: tag not 3 or 4.
+/// Adding: tag not 3, 4 or 5.
 pub const POINT_TAG: Refusal = 11;
 /// Adding: length not that of the tag.
 pub const POINT_LENGTH: Refusal = 12;
@@ -42,6 +43,8 @@ pub const NUMBER: Refusal = 14;
 pub const NOT_ABOVE_LAST: Refusal = 15;
 /// Adding: class not 1 to 3, or baseline above 1,000,000.
 pub const CLASS_OR_BASELINE: Refusal = 16;
+/// Adding: share above 1,000, at the place of 16.
+pub const SHARE: Refusal = 50;
 /// Adding: any reading above 1,000,000,000.
 pub const READING: Refusal = 17;
 /// Adding: fewer than four days.

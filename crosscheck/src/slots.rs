@@ -1,11 +1,14 @@
-//! "Slot results" of consumers and generators.
+//! "Slot results" of consumers, generators and mixed-firing plants.
 
 use crate::choosing::{ChosenDays, WindowSums};
 use crate::limits::*;
-use crate::point::{Consumer, Generator};
+use crate::point::{Consumer, Generator, MixedFiring};
 
 /// Six results in Wh, one for each window slot.
 pub type SlotResults = [i64; WINDOW_SLOTS];
+
+/// A division: dividend and divisor, which is positive.
+pub type Division = (i128, i128);
 
 /// Sums over the four chosen days, kept for the calculation.
 #[derive(Clone, Copy, Debug, PartialEq, Eq)]
@@ -24,6 +27,11 @@ pub fn divide_down(dividend: i128, divisor: i128) -> i128 {
     } else {
         toward_zero
     }
+}
+
+/// The result of a division in Wh.
+fn rounded((dividend, divisor): Division) -> i64 {
+    divide_down(dividend, divisor) as i64
 }
 
 /// The six readings of a day back from a slot on; day 0 back is the test day.
@@ -80,8 +88,8 @@ pub fn reductions(consumer: &Consumer, first_slot: u8, days: &ChosenDays) -> [i1
     })
 }
 
-/// The division of a consumer's slot result: dividend and divisor.
-pub fn loss_division(reduction: i128, loss: u16) -> (i128, i128) {
+/// The division of a consumer's slot result.
+pub fn loss_division(reduction: i128, loss: u16) -> Division {
     let dividend = reduction * i128::from(WHOLE);
     let divisor = PARTS_OF_A_WH * i128::from(WHOLE - loss);
     (dividend, divisor)
@@ -94,14 +102,25 @@ pub fn consumer_results(
     days: &ChosenDays,
     loss: u16,
 ) -> SlotResults {
-    reductions(consumer, first_slot, days).map(|reduction| {
-        let (dividend, divisor) = loss_division(reduction, loss);
-        divide_down(dividend, divisor) as i64
-    })
+    reductions(consumer, first_slot, days).map(|reduction| rounded(loss_division(reduction, loss)))
 }
 
 /// The six slot results of a generator: reading − 500 × baseline in kW.
 pub fn generator_results(generator: &Generator) -> SlotResults {
     let at_baseline = WH_OF_A_KW_SLOT * i128::from(generator.baseline());
     std::array::from_fn(|slot| (i128::from(generator.reading(slot)) - at_baseline) as i64)
+}
+
+/// The division of a mixed-firing plant's slot result: the two readings
+/// together × (1,000 − share) ÷ 1,000.
+pub fn share_division(plant: &MixedFiring, slot: usize) -> Division {
+    let together = i128::from(plant.outside(slot)) + i128::from(plant.inside(slot));
+    let whole = i128::from(WHOLE_SHARE);
+    (together * (whole - i128::from(plant.share())), whole)
+}
+
+/// The six slot results of a mixed-firing plant, each rounded toward minus
+/// infinity.
+pub fn mixed_firing_results(plant: &MixedFiring) -> SlotResults {
+    std::array::from_fn(|slot| rounded(share_division(plant, slot)))
 }

@@ -38,7 +38,7 @@ fn try_write_head(head: &[u8], calendar: &[u8], lent: &mut [u8]) -> Result<(), R
     put(&written, lent)
 }
 
-/// Writes a point: 11, 12, 14, 16, 17, then 40.
+/// Writes a point: 11, 12, 14, 16 or 50, 17, then 40.
 pub fn write_point(tag: u8, value: &[u8], lent: &mut [u8]) -> Refusal {
     answer(try_write_point(tag, value, lent))
 }
@@ -46,7 +46,7 @@ pub fn write_point(tag: u8, value: &[u8], lent: &mut [u8]) -> Refusal {
 fn try_write_point(tag: u8, value: &[u8], lent: &mut [u8]) -> Result<(), Refusal> {
     let point = Point::cut(tag, value)?; // 11, 12
     point.check_number()?; // 14
-    point.check_class_or_baseline()?; // 16
+    point.check_class_baseline_or_share()?; // 16 or 50
     point.check_readings()?; // 17
     put(&field(tag, value), lent)
 }

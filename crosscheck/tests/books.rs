@@ -5,7 +5,7 @@ mod common;
 use common::*;
 use settlement::book::{read_back, settle, settle_fields, written_book, HandedOn};
 use settlement::books::damages::{field_begins, DAMAGES};
-use settlement::books::examples::{consumers, example_m, refused};
+use settlement::books::examples::{consumers, example_m, plants, refused};
 use settlement::books::fields::*;
 use settlement::books::lists::{self, KINDS};
 use settlement::books::random::Random;
@@ -77,6 +77,99 @@ fn every_cut_of_a_book_with_a_consumer() {
     }
 }
 
+/// A book of one plant, number 7, share 33.3%, readings 1 to 12 times 1,000, put
+/// together by hand.
+fn book_of_a_plant() -> Vec<u8> {
+    let mut book = example_m()[..53].to_vec();
+    book.extend([5, 0, 72]);
+    book.extend(b"0000000000000000000007");
+    book.extend([0x01, 0x4D]); // 333
+    for times in 1..=12u16 {
+        let [high, low] = (1_000 * times).to_be_bytes();
+        book.extend([0, 0, high, low]);
+    }
+    book
+}
+
+#[test]
+fn a_plant_as_bytes_of_the_book() {
+    let book = book_of_a_plant();
+    assert_eq!(book.len(), 53 + 3 + 72);
+    let mut fields = MixedFiringFields::flat(7, 333, 0, 0);
+    for (times, reading) in (1..).zip(&mut fields.readings) {
+        *reading = 1_000 * times;
+    }
+    let mut list = List::new(Head::EXAMPLE_M);
+    list.push(PointFields::MixedFiring(fields));
+    assert_eq!(list.book(), book);
+    // Slot j: (1,000 j + 1,000 (j + 6)) × 0.667 = 8,000 × 0.667 and 1,334 more.
+    let settled = settle_fields(&book).unwrap();
+    let due = [5_336, 6_670, 8_004, 9_338, 10_672, 12_006];
+    assert_eq!(settled.state.totals, due);
+    assert_eq!(settled.figures.words()[..3], [52_026, 17, 983]);
+    assert_eq!(settled.figures.points, 1);
+    assert_eq!(settled.handed_on.points, [(5, &book[56..])]);
+    assert_eq!(written_book(&settled.handed_on), Ok(book.clone()));
+}
+
+#[test]
+fn every_cut_of_a_book_with_a_plant() {
+    let book = book_of_a_plant();
+    for length in 53..=book.len() {
+        let due = match length {
+            53 => 20,
+            54..128 => 31,
+            _ => 0,
+        };
+        assert_eq!(answer(&book[..length]), due, "{length} bytes");
+    }
+}
+
+#[test]
+fn a_plant_in_the_order_of_document_01() {
+    let changed = |changes: &[(usize, u8)], length: usize| {
+        let mut book = book_of_a_plant();
+        for &(place, byte) in changes {
+            book[place] = byte;
+        }
+        book.truncate(length);
+        answer(&book)
+    };
+    let whole = 128;
+    let (tag, length, number) = ((53, 6), (55, 73), (56, b'/'));
+    let (share, reading) = ((78, 4), (124, 0xFF)); // 1,101; the last reading
+    assert_eq!(changed(&[tag, length, number, share], 56), 11);
+    assert_eq!(changed(&[length, number, share], 56), 12);
+    assert_eq!(changed(&[(55, 71), share], whole), 12);
+    assert_eq!(changed(&[(53, 4)], whole), 12); // a plant's length
+    assert_eq!(changed(&[(53, 3)], whole), 12);
+    assert_eq!(changed(&[share, reading], 127), 31);
+    assert_eq!(changed(&[number, share, reading], whole), 14);
+    assert_eq!(changed(&[share, reading], whole), 50);
+    assert_eq!(changed(&[reading], whole), 17);
+    assert_eq!(changed(&[(80, 0xFF)], whole), 17); // the first reading
+    assert_eq!(changed(&[(78, 3), (79, 0xE8)], whole), 0); // 1,000
+    assert_eq!(changed(&[(78, 3), (79, 0xE9)], whole), 50); // 1,001
+    let mut book = book_of_a_plant();
+    book.push(0);
+    assert_eq!(answer(&book), 42);
+    book[78] = 4;
+    assert_eq!(answer(&book), 50); // before 42
+}
+
+#[test]
+fn plants_among_the_other_points() {
+    let mut list = three_points();
+    list.push(plant(4, 500, 3, 4));
+    list.points.insert(1, plant(1, 0, 0, 0));
+    list.head.count = 5;
+    assert_eq!(answer(&list.book()), 15); // numbers rise over all kinds
+    *list.points[0].number() = point_number(0);
+    let settled = settle_fields(&list.book()).map(|settled| settled.state);
+    // 550,000 of the generator, 0, 0, −500 and 3.5.
+    assert_eq!(settled.map(|state| state.totals), Ok([549_503; 6]));
+}
+
 #[test]
 fn bytes_after_the_last_point() {
     for more in [&[0u8][..], &[4, 0], &[4, 0, 50], &example_m()[53..]] {
@@ -145,7 +238,8 @@ fn a_point_in_the_order_of_document_01() {
     assert_eq!(changed(&[number, baseline], WHOLE), 14);
     assert_eq!(changed(&[baseline, (82, 0xFF)], WHOLE), 16);
     assert_eq!(changed(&[(82, 0xFF)], WHOLE), 17);
-    for other in [0, 1, 2, 5, 6] {
+    assert_eq!(changed(&[(53, 5)], WHOLE), 12);
+    for other in [0, 1, 2, 6, 7] {
         assert_eq!(changed(&[(53, other)], WHOLE), 11);
     }
 }
@@ -245,7 +339,7 @@ fn a_book_read_in_full_is_written_with_the_same_bytes() {
     assert_eq!(damages.len(), DAMAGES.len() + 1);
     let all: Vec<u32> = answers.keys().copied().collect();
     let due = [
-        0, 1, 2, 3, 4, 5, 6, 7, 8, 11, 12, 14, 15, 16, 17, 18, 20, 31, 41, 42,
+        0, 1, 2, 3, 4, 5, 6, 7, 8, 11, 12, 14, 15, 16, 17, 18, 20, 31, 41, 42, 50,
     ];
     assert_eq!(all, due);
     assert!(answers.values().all(|&times| times >= 10), "{answers:?}");
@@ -262,17 +356,18 @@ fn the_same_seed_gives_the_same_book() {
 
 #[test]
 fn the_values_handed_on_settle_to_the_same_figures() {
-    let book = consumers();
-    let settled = settle_fields(&book).unwrap();
-    let values = &settled.handed_on;
-    let (_, mut state) = open(values.head, values.calendar);
-    for (tag, value) in &values.points {
-        (_, state) = add(&state, *tag, value, &mut [0; 6]);
+    for (book, points) in [(consumers(), 4), (plants(), 2)] {
+        let settled = settle_fields(&book).unwrap();
+        let values = &settled.handed_on;
+        let (_, mut state) = open(values.head, values.calendar);
+        for (tag, value) in &values.points {
+            (_, state) = add(&state, *tag, value, &mut [0; 6]);
+        }
+        assert_eq!(state, settled.state);
+        assert_eq!(close(&state), (0, settled.figures));
+        assert!(settled.figures.shortfall > 0);
+        assert_eq!(settled.figures.points, points);
     }
-    assert_eq!(state, settled.state);
-    assert_eq!(close(&state), (0, settled.figures));
-    assert!(settled.figures.shortfall > 0);
-    assert_eq!(settled.figures.points, 4);
 }
 
 #[test]
@@ -290,6 +385,21 @@ fn a_list_of_10_000_points() {
     assert_eq!(figures.points, 10_000);
     list.push(generator(10_000, 0, 0));
     assert_eq!(answer(&list.book()), 7);
+}
+
+#[test]
+fn a_list_of_10_000_plants() {
+    let mut list = List::new(Head::EXAMPLE_M);
+    for number in 0..10_000 {
+        list.push(plant(number, 1, 1_000_000_000, 999_999_999));
+    }
+    // 1,999,999,999 × 0.999 = 1,997,999,999.001 in each of six slots.
+    let settled_book = list.book();
+    assert_eq!(settled_book.len(), 53 + 10_000 * 75);
+    let figures = settle_fields(&settled_book).unwrap().figures;
+    assert_eq!(figures.total, 119_879_999_940_000);
+    assert_eq!(figures.settled, 39_959_999_980);
+    assert_eq!(figures.points, 10_000);
 }
 
 #[test]

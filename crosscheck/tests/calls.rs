@@ -1,7 +1,9 @@
 //! The stored calls of the program call_vectors: what they cover, their form,
 //! and that the stored files are those made here.
 
-use settlement::books::fields::{raw_field, ConsumerFields, GeneratorFields, Head};
+use settlement::books::fields::{
+    raw_field, ConsumerFields, GeneratorFields, Head, MixedFiringFields,
+};
 use settlement::calls::vectors::stored_calls;
 use settlement::calls::{read_calls, Call, MOST_BYTES, MOST_PLACES, STATE_LENGTH};
 use settlement::choosing::standing_days;
@@ -53,12 +55,13 @@ fn every_refusal_of_every_operation() {
         told.entry(name(call)).or_default().insert(call.answer().0);
     }
     assert!(told["opening"].iter().copied().eq(0..=8));
-    assert!(told["adding"].iter().copied().eq((0..=0).chain(9..=18)));
+    let of_adding = (0..=0).chain(9..=18).chain([50]);
+    assert!(told["adding"].iter().copied().eq(of_adding));
     assert!(told["closing"].iter().copied().eq([0, 9, 20]));
     let of_head_writing = told["writing head"].iter().copied();
     assert!(of_head_writing.eq((0..=8).chain([40])));
     let of_point_writing = told["writing point"].iter().copied();
-    assert!(of_point_writing.eq([0, 11, 12, 14, 16, 17, 40]));
+    assert!(of_point_writing.eq([0, 11, 12, 14, 16, 17, 40, 50]));
 }
 
 #[test]
@@ -135,8 +138,8 @@ fn lengths_and_places() {
             accepted += u32::from(call.answer().0 == 0);
         }
     }
-    for length in [0, 49, 50, 51, 5_974, 5_975, 5_976, MOST_BYTES] {
-        assert!(lengths.contains(&(3, length)) && lengths.contains(&(4, length)));
+    for length in [0, 49, 50, 51, 71, 72, 73, 5_974, 5_975, 5_976, MOST_BYTES] {
+        assert!((3..=5).all(|tag| lengths.contains(&(tag, length))));
     }
     assert!(places.into_iter().eq(0..=MOST_PLACES));
     assert!(accepted > 500, "{accepted}");
@@ -208,6 +211,63 @@ fn consumers_of_every_choice() {
     assert!(shown.negative_results >= 5, "{}", shown.negative_results);
 }
 
+/// The faults of a plant's adding that tell 50 or stand behind it, by the
+/// bytes: 50, then 17.
+fn faults_of_a_plant(value: &[u8]) -> [bool; 2] {
+    let number = |bytes: &[u8]| {
+        bytes
+            .iter()
+            .fold(0u64, |high, &low| high << 8 | u64::from(low))
+    };
+    let above = |reading: &[u8]| number(reading) > 1_000_000_000;
+    [
+        number(&value[22..24]) > 1_000,
+        value[24..].chunks(4).any(above),
+    ]
+}
+
+#[test]
+fn plants_of_every_share_and_reading() {
+    let (mut told, mut shares, mut readings) = (BTreeSet::new(), BTreeSet::new(), BTreeSet::new());
+    for call in stored_calls() {
+        let Call::Adding { tag: 5, value, .. } = &call else {
+            continue;
+        };
+        if value.len() != 72 {
+            continue;
+        }
+        let refusal = call.answer().0;
+        let faults = faults_of_a_plant(value);
+        told.insert((refusal, faults));
+        if refusal == 0 {
+            shares.insert(u16::from_be_bytes([value[22], value[23]]));
+        }
+        for (place, reading) in value[24..].chunks(4).enumerate() {
+            let reading = u32::from_be_bytes(reading.try_into().unwrap());
+            let due = if faults[0] { 50 } else { 17 };
+            if reading <= 1_000_000_000 || refusal == due {
+                readings.insert((place, reading));
+            }
+        }
+    }
+    for faults in [[false, true], [true, false], [true, true]] {
+        for earlier in 9..=15 {
+            let alone = earlier == 11 || earlier == 12; // no plant in other forms
+            assert!(alone || told.contains(&(earlier, faults)), "{earlier}");
+        }
+        assert!(told.contains(&(if faults[0] { 50 } else { 17 }, faults)));
+    }
+    assert!(!told.iter().any(|(refusal, _)| [16, 18].contains(refusal)));
+    for share in [0, 1, 333, 500, 999, 1_000] {
+        assert!(shares.contains(&share), "{share}");
+    }
+    for place in 0..12 {
+        for reading in [0, 1, 1_000_000_000, 1_000_000_001] {
+            assert!(readings.contains(&(place, reading)), "{place} {reading}");
+        }
+    }
+}
+
 /// The bytes that a writing puts to the front where it is accepted, and what
 /// it is lent.
 fn field_and_lent(call: &Call) -> Option<(Vec<u8>, &[u8])> {
@@ -228,6 +288,7 @@ fn written(call: &Call) -> &'static str {
         Call::WritingHead { .. } => "head",
         Call::WritingPoint { tag: 3, .. } => "consumer",
         Call::WritingPoint { tag: 4, .. } => "generator",
+        Call::WritingPoint { tag: 5, .. } => "plant",
         _ => "other",
     }
 }
@@ -269,7 +330,7 @@ fn writing_in_every_room() {
         };
         seen.insert((written(&call), room, call.answer().0));
     }
-    for written in ["head", "consumer", "generator"] {
+    for written in ["head", "consumer", "generator", "plant"] {
         for room in ["none", "short", "one short"] {
             assert!(seen.contains(&(written, room, 40)), "{written} {room}");
         }
@@ -301,14 +362,23 @@ fn set_head_right(head: &mut Vec<u8>, calendar: &mut Vec<u8>, lent: &mut Vec<u8>
 /// Sets right all that a refusal of a point's writing looks at.
 fn set_point_right(tag: &mut u8, value: &mut Vec<u8>, lent: &mut Vec<u8>, refusal: u32) {
     match (refusal, *tag) {
-        (11, _) => *tag = if value.len() == 5_975 { 3 } else { 4 },
+        (11, _) => {
+            *tag = match value.len() {
+                5_975 => 3,
+                71.. => 5,
+                _ => 4,
+            }
+        }
         (12, 3) => *value = ConsumerFields::flat(1, 1, 1).value(),
-        (12, _) => *value = GeneratorFields::flat(1, 1, 1).value(),
+        (12, 4) => *value = GeneratorFields::flat(1, 1, 1).value(),
+        (12, _) => *value = MixedFiringFields::flat(1, 1, 1, 1).value(),
         (14, _) => value[..22].fill(b'1'),
         (16, 3) => value[22] = 1,
         (16, _) => value[22..26].fill(0),
+        (50, _) => value[22..24].fill(0),
         (17, 3) => value[23..].fill(0),
-        (17, _) => value[26..].fill(0),
+        (17, 4) => value[26..].fill(0),
+        (17, _) => value[24..].fill(0),
         _ => lent.resize(3 + value.len(), 0),
     }
 }
@@ -356,7 +426,10 @@ fn refusals_of_writing_alone_and_before_others() {
     of_a_point.extend([(12, 0), (12, 40)]);
     assert_eq!(seen["consumer"], of_a_point);
     assert_eq!(seen["generator"], of_a_point);
-    let of_another_tag = [0, 12, 14, 16, 17, 40].map(|next| (11, next));
+    let mut of_a_plant = alone_and_before(&[14, 50, 17, 40]);
+    of_a_plant.extend([(12, 0), (12, 40)]);
+    assert_eq!(seen["plant"], of_a_plant);
+    let of_another_tag = [0, 12, 14, 16, 17, 40, 50].map(|next| (11, next));
     assert_eq!(seen["other"], BTreeSet::from(of_another_tag));
 }
 

@@ -18,17 +18,33 @@ const SEQUENCES: u64 = 60_000;
 
 #[test]
 fn demand_3_holds_over_many_sequences() {
-    let mut seen = Seen::default();
+    let mut seen = [Seen::default(); 2]; // without plants, with plants
     let mut kinds = BTreeSet::new();
     for seed in 0..SEQUENCES {
         let sequence = seeded_sequence(seed);
         let held = demand3(&sequence.head, &sequence.calendar, &sequence.calls);
-        seen = seen.and(held.unwrap_or_else(|breach| panic!("seed {seed}: {breach:?}")));
+        let held = held.unwrap_or_else(|breach| panic!("seed {seed}: {breach:?}"));
+        let of_its_kind = &mut seen[usize::from(has_plants(&sequence))];
+        *of_its_kind = of_its_kind.and(held);
         kinds.insert(sequence.kind);
     }
     println!("{SEQUENCES} sequences of {} kinds: {seen:?}", kinds.len());
     assert_eq!(kinds.len(), KINDS.len() + SHORTFALL_KINDS.len());
-    let counts = [
+    for (seen, least) in seen.iter().zip([300, 50]) {
+        let counts = counts_of(seen);
+        assert!(counts.iter().all(|&times| times >= least), "{seen:?}");
+    }
+}
+
+/// Whether a sequence adds a mixed-firing plant.
+fn has_plants(sequence: &Sequence) -> bool {
+    let of_plant = |call: &Call| matches!(call, Call::Adding { tag: 5, .. });
+    sequence.calls.iter().any(of_plant)
+}
+
+/// All counts of what was seen.
+fn counts_of(seen: &Seen) -> [u64; 10] {
+    [
         seen.refused_openings,
         seen.accepted_addings,
         seen.refused_addings,
@@ -36,11 +52,10 @@ fn demand_3_holds_over_many_sequences() {
         seen.equal_contract_reached,
         seen.equal_without_remainder,
         seen.greater,
-        seen.greater_by_consumers_alone,
+        seen.greater_by_points_alone,
         seen.greater_by_total_alone,
         seen.settled_below_zero,
-    ];
-    assert!(counts.iter().all(|&times| times >= 300), "{seen:?}");
+    ]
 }
 
 /// The exact shortfall of a list in kW, from naive fractions of every point.
@@ -94,13 +109,76 @@ fn example_i_by_hand() {
     list.push(PointFields::Consumer(consumer_of_example_h(1, 241)));
     let account = account_of(&list);
     let parts = parts_of_a_kw(account.terms().unwrap());
-    assert_eq!(parts, 72_000 * 9_300 * 9_600 * 9_800);
+    assert_eq!(parts, 72_000_000 * 9_300 * 9_600 * 9_800);
     let exact = Fraction::new(account.closing().unwrap(), parts);
     let sold = Fraction::new(599_375, 100).times(1, 3_000);
     assert_eq!(exact, Fraction::whole(1_000).minus(sold));
     let calls = [adding(&list.points[0]), Call::Closing];
     let seen = demand3(&list.head.value(), &list.marks, &calls).unwrap();
-    assert_eq!((seen.greater, seen.greater_by_consumers_alone), (1, 0));
+    assert_eq!((seen.greater, seen.greater_by_points_alone), (1, 0));
+}
+
+#[test]
+fn a_plant_by_hand() {
+    // 100 × 0.667 = 66.7 in five slots and 102 × 0.667 = 68.034 in one make
+    // 401.534 Wh; printed is 0 kW.
+    let mut list = list_of_count(1);
+    list.push(plant(1, 333, 50, 50));
+    list.points[0].readings()[3] = 52;
+    let account = account_of(&list);
+    let parts = parts_of_a_kw(account.terms().unwrap());
+    let exact = Fraction::new(account.closing().unwrap(), parts);
+    let sold = Fraction::new(401_534, 1_000).times(1, 3_000);
+    assert_eq!(exact, Fraction::whole(1_000).minus(sold));
+    let calls = [adding(&list.points[0]), Call::Closing];
+    let seen = demand3(&list.head.value(), &list.marks, &calls).unwrap();
+    assert_eq!((seen.greater, seen.greater_by_points_alone), (1, 0));
+}
+
+#[test]
+fn parts_of_a_kw_are_the_same_with_and_without_plants() {
+    for point in a_point_of_each_kind(1) {
+        let mut list = list_of_count(1);
+        list.head.losses = [0; 3];
+        list.push(point);
+        let account = account_of(&list);
+        let parts = parts_of_a_kw(account.terms().unwrap());
+        assert_eq!(parts, 72_000_000 * 1_000_000_000_000);
+    }
+}
+
+#[test]
+fn plants_with_and_without_remainder() {
+    let seen = |points: &[PointFields], contract: u32| {
+        let mut list = List::new(Head::EXAMPLE_M);
+        points.iter().for_each(|point| list.push(point.clone()));
+        list.head.contract = contract;
+        seen_of(&list)
+    };
+    // 250.5 and 249.5 are whole together: 500 in each slot, 1 kW in all.
+    let whole = plant(1, 500, 501, 499);
+    assert_eq!(seen(&[whole], 1_000).equal_without_remainder, 1);
+    // 500.5 in each slot: 500 are printed, and 3,000 Wh leave no remainder.
+    let with_remainder = [plant(1, 500, 501, 500)];
+    let by_points = seen(&with_remainder, 1_000);
+    assert_eq!(
+        (by_points.greater, by_points.greater_by_points_alone),
+        (1, 1)
+    );
+    // A share of 1,000 gives 0 with no remainder.
+    let nothing = plant(1, 1_000, 777, 3);
+    assert_eq!(seen(&[nothing], 1_000).equal_without_remainder, 1);
+    // 501 in each slot leaves only the total's remainder.
+    let by_total = seen(&[plant(1, 500, 502, 500)], 1_000);
+    assert_eq!((by_total.greater, by_total.greater_by_total_alone), (1, 1));
+    // Settled reaches the contract: equal, whatever is left.
+    let reached = [plant(1, 1, 500_501, 0)]; // 500,000.499 a slot: 1,000 kW
+    assert_eq!(seen(&reached, 1_000).equal_contract_reached, 1);
+    assert_eq!(seen(&reached, 1_001).greater_by_points_alone, 1);
+    assert_eq!(seen(&with_remainder, 0).equal_contract_reached, 1);
+    // A remainder of the first point counts behind a generator without one.
+    let behind = [plant(1, 500, 501, 500), generator(2, 0, 500)];
+    assert_eq!(seen(&behind, 1_000).greater_by_points_alone, 1);
 }
 
 #[test]
@@ -143,6 +221,27 @@ fn ten_thousand_points_come_near_the_allowance() {
     assert!(printed_less_exact(&list, &calls) > 20.99); // allowed: below 21
 }
 
+#[test]
+fn ten_thousand_plants_come_near_the_allowance() {
+    // Each slot of a plant gives 5,000.999 Wh, of which 5,000 are counted; the
+    // last plant has 1 Wh less, so that the total is 299,999,999 Wh. Exactly it
+    // is 59,940 Wh more: 100,019.97966.. kW beside 99,999 kW.
+    let mut list = list_of_count(10_000);
+    list.head.contract = 10_000_000;
+    let mut calls = Vec::new();
+    for number in 0..9_999 {
+        calls.push(adding(&plant(number, 999, 5_000_000, 999)));
+    }
+    let mut last = plant(9_999, 999, 5_000_000, 999);
+    last.readings()[0] -= 1_000;
+    calls.push(adding(&last));
+    let off = printed_less_exact(&list, &calls);
+    assert!((20.97966..20.97967).contains(&off), "{off}"); // allowed: below 21
+    calls.push(Call::Closing);
+    let seen = demand3(&list.head.value(), &list.marks, &calls).unwrap();
+    assert_eq!((seen.accepted_addings, seen.greater), (10_000, 1));
+}
+
 /// Printed less exact shortfall in kW after a sequence of accepted addings.
 fn printed_less_exact(list: &List, calls: &[Call]) -> f64 {
     let mut state = opened(list);
@@ -168,22 +267,32 @@ fn beyond_the_allowance(list: &List) -> f64 {
 #[test]
 fn lists_at_the_allowance_come_near_it() {
     for seed in 0..200 {
-        let beyond = beyond_the_allowance(&consumers_near_allowance(&mut Random::new(seed)));
-        assert!((-0.0005..0.0).contains(&beyond), "{seed}: {beyond}");
+        for near in [consumers_near_allowance, plants_near_allowance] {
+            let beyond = beyond_the_allowance(&near(&mut Random::new(seed)));
+            assert!((-0.0005..0.0).contains(&beyond), "{seed}: {beyond}");
+        }
         // One kW more is a Wh of 3,000 below, at or above it.
         let beyond = beyond_the_allowance(&generators_at_allowance(&mut Random::new(seed))) + 1.0;
         assert!((-0.0004..0.0004).contains(&beyond), "{seed}: {beyond}");
     }
 }
 
+/// What demand 3 shows of a list whose points are added and then closed.
+fn seen_of(list: &List) -> Seen {
+    let mut calls: Vec<Call> = list.points.iter().map(adding).collect();
+    calls.push(Call::Closing);
+    demand3(&list.head.value(), &list.marks, &calls).unwrap()
+}
+
 #[test]
 fn one_remainder_alone_makes_the_printed_one_greater() {
     for seed in 0..200 {
-        let list = one_remainder(&mut Random::new(seed));
-        let mut calls: Vec<Call> = list.points.iter().map(adding).collect();
-        calls.push(Call::Closing);
-        let seen = demand3(&list.head.value(), &list.marks, &calls).unwrap();
-        assert_eq!(seen.greater_by_consumers_alone, 1, "{seed}");
+        for make in [one_remainder, one_remainder_of_a_plant] {
+            let seen = seen_of(&make(&mut Random::new(seed)));
+            assert_eq!(seen.greater_by_points_alone, 1, "{seed}");
+        }
+        let seen = seen_of(&plants_whole_together(&mut Random::new(seed)));
+        assert_eq!(seen.equal_without_remainder, 1, "{seed}");
     }
 }
 
@@ -470,12 +579,9 @@ fn the_checker_tells_the_closings_apart() {
         adding(&list.points[1]),
         Call::Closing,
     ];
-    let by_consumers = demand3(&list.head.value(), &list.marks, &calls).unwrap();
+    let by_points = demand3(&list.head.value(), &list.marks, &calls).unwrap();
     assert_eq!(
-        (
-            by_consumers.greater,
-            by_consumers.greater_by_consumers_alone
-        ),
+        (by_points.greater, by_points.greater_by_points_alone),
         (1, 1)
     );
     list.points[1] = generator(2, 100, 0);

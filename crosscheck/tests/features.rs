@@ -8,8 +8,8 @@ use settlement::choosing::{dropped_in_round, standing_days, WindowSums};
 use settlement::days::is_weekend;
 use settlement::ledger::{add, close, open, State};
 use settlement::limits::*;
-use settlement::point::Point;
-use settlement::slots::window_sums;
+use settlement::point::{MixedFiring, Point};
+use settlement::slots::{window_sums, SlotResults};
 use settlement::terms::{contract_is_allowed, Terms};
 use std::collections::{BTreeMap, BTreeSet};
 
@@ -157,6 +157,7 @@ fn look_at_point(seen: &mut Seen, state: &State, tag: u8, value: &[u8]) -> State
     let (refusal, after) = add(state, tag, value, &mut results);
     let point = Point::cut(tag, value).unwrap();
     let mut few_days = false;
+    let mut at_16 = 16;
     match point {
         Point::Consumer(consumer) => {
             let eligible = state.terms.eligible_days();
@@ -175,18 +176,54 @@ fn look_at_point(seen: &mut Seen, state: &State, tag: u8, value: &[u8]) -> State
             let negative = results.iter().any(|&result| result < 0);
             seen.note("result of a generator below zero", negative);
         }
+        Point::MixedFiring(plant) => {
+            at_16 = 50;
+            look_at_plant(seen, &plant, &results);
+        }
     }
     let number = point.number();
     seen.note("number of zeros", number == [b'0'; 22]);
     seen.note("number of nines", number == NOT_YET_ISSUED);
-    seen.note_faults(&[
+    let mut faults = vec![
         (14, point.check_number().is_err()),
         (15, state.points > 0 && number <= state.last),
-        (16, point.check_class_or_baseline().is_err()),
+        (at_16, point.check_class_baseline_or_share().is_err()),
         (17, point.check_readings().is_err()),
-        (18, few_days),
-    ]);
+    ];
+    if at_16 == 16 {
+        faults.push((18, few_days)); // a plant has no days
+    }
+    seen.note_faults(&faults);
     after
+}
+
+/// The share and the twelve readings of a plant, and its divisions.
+fn look_at_plant(seen: &mut Seen, plant: &MixedFiring, results: &SlotResults) {
+    let shares = [0, 1, 333, 500, 999, 1_000, 1_001, 65_535];
+    seen.note_value("share", plant.share(), &shares);
+    let (mut left, mut apart) = ([false; 2], false);
+    for (slot, &result) in results.iter().enumerate() {
+        let (outside, inside) = (plant.outside(slot), plant.inside(slot));
+        let matter = [0, 1, 1_000_000_000, 1_000_000_001];
+        seen.note_value(&format!("reading {slot} outside"), outside, &matter);
+        seen.note_value(&format!("reading {slot} inside"), inside, &matter);
+        let part = 1_000u64.saturating_sub(u64::from(plant.share()));
+        let [outside, inside] = [outside, inside].map(|reading| u64::from(reading) * part);
+        left[usize::from((outside + inside) % 1_000 != 0)] = true;
+        apart |= outside / 1_000 + inside / 1_000 != (outside + inside) / 1_000;
+        seen.note(
+            "result of a plant of 2,000,000,000",
+            result == 2_000_000_000,
+        );
+    }
+    let accepted = plant.share() <= 1_000;
+    seen.note("plant without remainder", accepted && !left[1]);
+    seen.note(
+        "plant with remainder in some slots",
+        accepted && left == [true; 2],
+    );
+    seen.note("plant with remainder in every slot", accepted && !left[0]);
+    seen.note("plant whose readings apart give less", accepted && apart);
 }
 
 /// The points up to the first that is refused, then the total.
@@ -196,6 +233,10 @@ fn look_at_points(seen: &mut Seen, book: &[u8]) {
     if refusal != 0 {
         return;
     }
+    let plants = points.iter().filter(|point| point.0 == 5).count();
+    seen.note("plants alone", plants > 0 && plants == points.len());
+    seen.note("several plants", plants > 1);
+    seen.note("plants among others", plants > 0 && plants < points.len());
     for (tag, value) in points {
         let after = look_at_point(seen, &state, tag, value);
         if after.points == state.points {
@@ -224,7 +265,7 @@ fn look_at_points(seen: &mut Seen, book: &[u8]) {
 
 #[test]
 fn points_walks_and_totals() {
-    look_at_books(look_at_points).all_occur(58);
+    look_at_books(look_at_points).all_occur(125);
 }
 
 #[test]

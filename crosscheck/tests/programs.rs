@@ -28,6 +28,7 @@ fn settle_text(book: &[u8]) -> Output {
 fn books_by_name() {
     assert_eq!(make_book(&["m"]).stdout, examples::example_m());
     assert_eq!(make_book(&["consumers"]).stdout, examples::consumers());
+    assert_eq!(make_book(&["plants"]).stdout, examples::plants());
     assert_eq!(make_book(&["refused"]).stdout, examples::refused());
     assert_eq!(make_book(&["case", "21"]).stdout, seeded_book(21).book);
 }
@@ -46,6 +47,7 @@ fn text_on_standard_output() {
     for book in [
         examples::example_m(),
         examples::consumers(),
+        examples::plants(),
         examples::refused(),
         vec![],
     ] {
@@ -68,6 +70,32 @@ slot 4 450557
 slot 5 450557
 slot 6 450557
 total 2723736
+settled 907
+shortfall 93
+expected 907
+kept 907
+surplus 0
+bid no
+";
+    assert_eq!(text, due);
+}
+
+#[test]
+fn text_of_the_plants() {
+    // First: 500,001, 500,008 .. 500,036 × 667 ÷ 1,000 = 333,500.667, 333,505.336,
+    // 333,510.005, 333,514.674, 333,519.343, 333,524.012. Second: 200,005 × 0.6 =
+    // 120,003.
+    let text = settle_book_text(&examples::plants());
+    let due = "\
+date 2024-08-07 slot 26
+points 2
+slot 1 453503
+slot 2 453508
+slot 3 453513
+slot 4 453517
+slot 5 453522
+slot 6 453527
+total 2721090
 settled 907
 shortfall 93
 expected 907

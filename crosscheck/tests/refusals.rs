@@ -245,12 +245,13 @@ fn answer_of_adding(adding: &Adding) -> u32 {
     number
 }
 
-/// Faults in the order of document 01, for consumers and generators alike but
-/// for 18, which only a consumer has; 40 is told by writing alone.
-const ADDING_FAULTS: [Fault<Adding>; 11] = [
+/// Faults in the order of document 01, for all kinds alike but for 16 and 50,
+/// which are one place, and 18, which only a consumer has; 40 is told by writing
+/// alone.
+const ADDING_FAULTS: [Fault<Adding>; 12] = [
     (9, |adding| adding.state.terms.head.first_slot = 35),
     (10, |adding| adding.state.points = 3),
-    (11, |adding| adding.tag = 5),
+    (11, |adding| adding.tag = 6),
     (12, |adding| adding.value.truncate(49)),
     (13, |adding| adding.places = 7),
     (14, |adding| adding.value[0] = b'/'),
@@ -258,7 +259,8 @@ const ADDING_FAULTS: [Fault<Adding>; 11] = [
         adding.value[..22].copy_from_slice(&point_number(5))
     }),
     (16, |adding| adding.value[22] = 0xFF), // class, or baseline's high byte
-    (17, |adding| adding.value[46..48].fill(0xFF)), // a reading's high byte
+    (50, |adding| adding.value[22] = 0xFF), // share's high byte
+    (17, |adding| adding.value[46..49].fill(0xFF)), // a reading's high byte
     (18, |adding| adding.state.terms.marks = [1; 30]),
     (40, |adding| adding.lent = 52),
 ];
@@ -282,10 +284,32 @@ fn adding_a_generator_tells_the_first_refusal() {
 }
 
 #[test]
-fn adding_a_generator_needs_no_days() {
-    let mut adding = adding_of(generator(7, 0, 100));
-    adding.state.terms.marks = [1; 30];
-    assert_eq!(answer_of_adding(&adding), 0);
+fn adding_a_plant_tells_the_first_refusal() {
+    let faults = faults_of(&[9, 10, 11, 12, 13, 14, 15, 50, 17]);
+    assert_order(&adding_of(plant(7, 500, 1, 1)), &faults, answer_of_adding);
+}
+
+#[test]
+fn adding_a_generator_or_a_plant_needs_no_days() {
+    for point in [generator(7, 0, 100), plant(7, 1, 100, 0)] {
+        let mut adding = adding_of(point);
+        adding.state.terms.marks = [1; 30];
+        assert_eq!(answer_of_adding(&adding), 0);
+    }
+}
+
+#[test]
+fn a_plant_is_one_point() {
+    let state = opened(&list_of_count(2));
+    let (_, state, _) = add_point(&state, &plant(1, 500, 400, 600));
+    assert_eq!((state.points, state.totals), (1, [500; 6]));
+    assert_eq!(state.last, point_number(1));
+    assert_eq!(close(&state).0, 20);
+    let (number, state, _) = add_point(&state, &plant(2, 0, 1, 2));
+    assert_eq!((number, state.points, state.totals), (0, 2, [503; 6]));
+    let (number, figures) = close(&state);
+    assert_eq!((number, figures.points, figures.total), (0, 2, 3_018));
+    assert_eq!(add_point(&state, &plant(3, 0, 1, 2)).0, 10);
 }
 
 #[test]
@@ -301,13 +325,13 @@ fn adding_when_the_count_is_reached() {
 }
 
 #[test]
-fn adding_knows_two_tags() {
+fn adding_knows_three_tags() {
     for tag in 0..=255 {
-        for point in [level_consumer(7), generator(7, 0, 1)] {
+        for point in a_point_of_each_kind(7) {
             let mut adding = adding_of(point);
             let due = match tag {
-                3 | 4 if tag == adding.tag => 0,
-                3 | 4 => 12,
+                3..=5 if tag == adding.tag => 0,
+                3..=5 => 12,
                 _ => 11,
             };
             adding.tag = tag;
@@ -318,9 +342,13 @@ fn adding_knows_two_tags() {
 
 #[test]
 fn adding_refuses_other_lengths_and_places() {
-    for point in [level_consumer(7), generator(7, 0, 1)] {
+    let lengths = [
+        0, 1, 21, 22, 49, 50, 51, 71, 72, 73, 5_974, 5_975, 5_976, 70_000,
+    ];
+    for point in a_point_of_each_kind(7) {
         let right = adding_of(point.clone()).value.len();
-        for length in [0, 1, 21, 22, 49, 50, 51, 5_974, 5_975, 5_976, 70_000] {
+        assert!(lengths.contains(&right));
+        for length in lengths {
             let mut adding = adding_of(point.clone());
             adding.value.resize(length, 0);
             let due = if length == right { 0 } else { 12 };
@@ -357,7 +385,7 @@ fn adding_refuses_numbers_not_yet_issued() {
         (9_999_999_999_899_999_999_999, 0),
     ];
     for (number, due) in numbers {
-        for point in [generator(number, 0, 1), level_consumer(number)] {
+        for point in a_point_of_each_kind(number) {
             assert_eq!(answer_of_adding(&adding_of(point)), due);
         }
     }
@@ -366,7 +394,7 @@ fn adding_refuses_numbers_not_yet_issued() {
 #[test]
 fn adding_takes_rising_numbers_across_kinds() {
     for (number, due) in [(0, 15), (4, 15), (5, 15), (6, 0), (10, 0), (1 << 70, 0)] {
-        for point in [generator(number, 0, 1), level_consumer(number)] {
+        for point in a_point_of_each_kind(number) {
             assert_eq!(answer_of_adding(&adding_of(point)), due, "{number}");
         }
     }
@@ -402,6 +430,35 @@ fn adding_at_the_edges_of_class_and_baseline() {
     }
 }
 
+/// Biomass shares with the refusal that is due.
+const SHARES: [(u16, u32); 10] = [
+    (0, 0),
+    (1, 0),
+    (333, 0),
+    (500, 0),
+    (999, 0),
+    (1_000, 0),
+    (1_001, 50),
+    (1_024, 50),
+    (1_280, 50),
+    (65_535, 50),
+];
+
+#[test]
+fn adding_at_the_edges_of_the_share() {
+    for (share, due) in SHARES {
+        assert_eq!(answer_of_adding(&adding_of(plant(7, share, 1, 1))), due);
+        // 50 is told before 17, and 15 and 14 before 50.
+        let mut adding = adding_of(plant(7, share, 1_000_000_001, 1));
+        let in_order = if due == 0 { 17 } else { 50 };
+        assert_eq!(answer_of_adding(&adding), in_order);
+        adding.value[..22].copy_from_slice(&point_number(5));
+        assert_eq!(answer_of_adding(&adding), 15);
+        adding.value[21] = b':';
+        assert_eq!(answer_of_adding(&adding), 14);
+    }
+}
+
 #[test]
 fn adding_tests_every_reading() {
     for (reading, due) in [(1_000_000_000, 0), (1_000_000_001, 17), (u32::MAX, 17)] {
@@ -415,6 +472,13 @@ fn adding_tests_every_reading() {
             let mut generator = GeneratorFields::flat(7, 0, 0);
             generator.readings[place] = reading;
             let adding = adding_of(PointFields::Generator(generator));
+            assert_eq!(answer_of_adding(&adding), due, "place {place}");
+        }
+        for place in 0..12 {
+            // A share of 1,000 lets no reading count, but each is tested.
+            let mut plant = MixedFiringFields::flat(7, 1_000, 0, 1_000_000_000);
+            plant.readings[place] = reading;
+            let adding = adding_of(PointFields::MixedFiring(plant));
             assert_eq!(answer_of_adding(&adding), due, "place {place}");
         }
     }
@@ -499,11 +563,14 @@ fn writing_a_point_tells_the_first_refusal() {
         let faults = faults_of(&[11, 12, 14, 16, 17, 40]);
         assert_order(&adding_of(point), &faults, answer_of_point_writing);
     }
+    let faults = faults_of(&[11, 12, 14, 50, 17, 40]);
+    let adding = adding_of(plant(7, 500, 1, 1));
+    assert_order(&adding, &faults, answer_of_point_writing);
 }
 
 #[test]
 fn writing_a_point_needs_its_field() {
-    for point in [level_consumer(7), generator(7, 0, 1)] {
+    for point in a_point_of_each_kind(7) {
         let needed = written_length(&point);
         for lent in [0, 1, 52, 53, needed - 1, needed, needed + 1, 7_000] {
             let due = if lent < needed { 40 } else { 0 };
@@ -528,12 +595,19 @@ fn writing_a_point_at_the_edges() {
         let point = generator(7, baseline, reading);
         assert_eq!(answer_of_point_writing(&adding_of(point)), due);
     }
-    for number in [0, 9_999_999_999_999_999_999_998] {
-        assert_eq!(
-            answer_of_point_writing(&adding_of(generator(number, 0, 0))),
-            0
-        );
+    for (share, due) in SHARES {
+        let point = plant(7, share, 1_000_000_000, 1_000_000_000);
+        assert_eq!(answer_of_point_writing(&adding_of(point)), due);
+        let point = plant(7, share, 0, 1_000_000_001);
+        let in_order = if due == 0 { 17 } else { 50 };
+        assert_eq!(answer_of_point_writing(&adding_of(point)), in_order);
     }
-    let not_issued = generator(9_999_999_999_999_999_999_999, 0, 0);
-    assert_eq!(answer_of_point_writing(&adding_of(not_issued)), 14);
+    for number in [0, 9_999_999_999_999_999_999_998] {
+        for point in a_point_of_each_kind(number) {
+            assert_eq!(answer_of_point_writing(&adding_of(point)), 0);
+        }
+    }
+    for not_issued in a_point_of_each_kind(9_999_999_999_999_999_999_999) {
+        assert_eq!(answer_of_point_writing(&adding_of(not_issued)), 14);
+    }
 }

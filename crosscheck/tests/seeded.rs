@@ -157,3 +157,69 @@ fn results_below_zero_and_at_the_limit() {
     assert!(counts[&4_000_000_000] > 100, "{counts:?}");
     assert!(counts[&-2_000_000_000] > 100, "{counts:?}");
 }
+
+/// The plants of a list.
+fn plants_of(list: &List) -> Vec<&MixedFiringFields> {
+    fn plant(point: &PointFields) -> Option<&MixedFiringFields> {
+        match point {
+            PointFields::MixedFiring(plant) => Some(plant),
+            _ => None,
+        }
+    }
+    list.points.iter().filter_map(plant).collect()
+}
+
+#[test]
+fn plants_alone_and_behind_other_points() {
+    let counts = counted(lists::mixed_firing_plants, |list| plants_of(list).len());
+    assert!(counts.keys().copied().eq(1..=8), "{counts:?}");
+    let counts = counted(lists::boundary_plant, |list| list.points.len() > 1);
+    assert!(counts.values().all(|&times| times > 400), "{counts:?}");
+    let counts = counted(lists::ordinary, |list| !plants_of(list).is_empty());
+    assert!(counts[&true] > 200, "{counts:?}");
+}
+
+#[test]
+fn plants_at_the_edges_are_refused_or_taken() {
+    let counts = counted(lists::boundary_plant, |list| {
+        settlement::book::settle_fields(&list.book()).err()
+    });
+    for answer in [None, Some(17), Some(50)] {
+        assert!(counts[&answer] > 100, "{counts:?}");
+    }
+    let counts = counted(lists::highest_plants, |list| {
+        add_point(&opened(list), &list.points[0]).2[0]
+    });
+    for result in [0, 1, 2_000_000_000] {
+        assert!(counts[&result] > 10, "{counts:?}");
+    }
+}
+
+#[test]
+fn contracts_lie_beside_the_settled_capacity_of_plants() {
+    let counts = counted(lists::contract_near_plants, |list| {
+        let figures = figures_of(list)?;
+        assert_eq!(plants_of(list).len(), list.points.len());
+        (list.head.contract > 0).then(|| figures.settled - i64::from(list.head.contract))
+    });
+    for beside in [-1, 0, 1] {
+        assert!(counts[&Some(beside)] > 200, "{counts:?}");
+    }
+}
+
+#[test]
+fn plants_without_remainder_have_one_in_each_part() {
+    let counts = counted(lists::without_remainder, |list| {
+        let parts = |plant: &MixedFiringFields| {
+            let left = 1_000 - u64::from(plant.share);
+            let rest = |&reading: &u32| u64::from(reading) * left % 1_000;
+            let (outside, inside) = plant.readings.split_at(6);
+            let both = |(one, other)| (rest(one) + rest(other)) % 1_000;
+            let together: u64 = outside.iter().zip(inside).map(both).sum();
+            assert_eq!(together, 0);
+            outside.iter().map(rest).sum::<u64>() > 0
+        };
+        plants_of(list).into_iter().any(parts)
+    });
+    assert!(counts[&true] > 200, "{counts:?}");
+}

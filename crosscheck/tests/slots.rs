@@ -161,6 +161,71 @@ fn generator_results() {
     assert_eq!(result(0, 1_000_000_000).2, [1_000_000_000; 6]);
 }
 
+/// The first slot result of a plant with a share and the two readings.
+fn result_of_plant(share: u16, outside: u32, inside: u32) -> i64 {
+    let (number, state, places) = add_point(
+        &opened(&list_of_count(1)),
+        &plant(1, share, outside, inside),
+    );
+    assert_eq!(number, 0);
+    assert_eq!((state.totals, places), ([places[0]; 6], [places[0]; 6]));
+    places[0]
+}
+
+#[test]
+fn plant_results_by_hand() {
+    assert_eq!(result_of_plant(0, 700, 300), 1_000);
+    assert_eq!(result_of_plant(333, 700, 300), 667);
+    assert_eq!(result_of_plant(500, 1, 0), 0); // 0.5
+    assert_eq!(result_of_plant(500, 3, 0), 1); // 1.5
+    assert_eq!(result_of_plant(500, 0, 3), 1);
+    assert_eq!(result_of_plant(1, 1_000, 0), 999);
+    assert_eq!(result_of_plant(1, 999, 0), 998); // 998.001
+    assert_eq!(result_of_plant(1, 1, 0), 0); // 0.999
+    assert_eq!(result_of_plant(999, 999, 0), 0); // 0.999
+    assert_eq!(result_of_plant(999, 1_000, 999), 1); // 1.999
+    assert_eq!(result_of_plant(1_000, 1_000_000_000, 1_000_000_000), 0);
+    assert_eq!(
+        result_of_plant(0, 1_000_000_000, 1_000_000_000),
+        2_000_000_000
+    );
+    // 2,000,000,000 × 0.667 and 1,999,999,999 × 0.667 = 1,333,999,999.333
+    assert_eq!(
+        result_of_plant(333, 1_000_000_000, 1_000_000_000),
+        1_334_000_000
+    );
+    assert_eq!(
+        result_of_plant(333, 1_000_000_000, 999_999_999),
+        1_333_999_999
+    );
+}
+
+#[test]
+fn the_two_readings_are_added_before_dividing() {
+    // 1.5 and 1.5 make 3, and each by itself 1; 0.999 and 0.002 make 1.001.
+    assert_eq!(result_of_plant(500, 3, 3), 3);
+    assert_eq!(result_of_plant(999, 999, 2), 1);
+    assert_eq!(result_of_plant(333, 500, 500), 667); // 333.5 twice
+}
+
+#[test]
+fn each_slot_of_a_plant_has_its_own_two_readings() {
+    let mut fields = MixedFiringFields::flat(1, 250, 0, 0);
+    fields.readings = [4, 8, 12, 16, 20, 24, 400, 800, 1_200, 1_600, 2_000, 2_401];
+    let point = PointFields::MixedFiring(fields);
+    let (_, _, places) = add_point(&opened(&list_of_count(1)), &point);
+    assert_eq!(places, [303, 606, 909, 1_212, 1_515, 1_818]); // three quarters
+}
+
+#[test]
+fn a_plant_has_no_loss_and_no_days() {
+    let mut list = list_of_count(1);
+    list.head.losses = [5_000; 3];
+    list.marks = [1; 30];
+    let (number, _, places) = add_point(&opened(&list), &plant(1, 400, 100, 50));
+    assert_eq!((number, places), (0, [90; 6]));
+}
+
 #[test]
 fn results_reach_the_limit_of_a_slot_total() {
     let mut list = list_of_count(1);

@@ -51,7 +51,7 @@ fn worked(metered: u32, usage: u32) -> (i64, i64, i64, i128) {
     let words = figures.words();
     assert_eq!(words[6], 2);
     let kw = parts_of_a_kw(account.terms().expect("opened"));
-    assert_eq!(kw, 62_995_968_000_000_000);
+    assert_eq!(kw, 62_995_968_000_000_000_000);
     let exact = account.closing().expect("closed");
     assert_eq!(exact * 480 % kw, 0);
     (words[0], words[1], words[2], exact * 480 / kw)

@@ -44,6 +44,10 @@ pub const OTHER_DATES: [Date; 15] = [
     (2024, 8, 5),
 ];
 
+/// Biomass shares at the edges, in between and beyond; of 1,024 the low byte
+/// alone would be allowed.
+pub const SHARES: [u16; 9] = [0, 1, 333, 500, 999, 1_000, 1_001, 1_024, u16::MAX];
+
 /// One part of the head.
 pub fn head(random: &mut Random, list: &mut List) {
     match random.below(5) {
@@ -78,7 +82,7 @@ pub fn point(random: &mut Random, list: &mut List) {
     let point = &mut list.points[place];
     match random.below(3) {
         0 => *point.number() = number(random),
-        1 => class_or_baseline(random, point),
+        1 => class_baseline_or_share(random, point),
         _ => reading(random, point),
     }
 }
@@ -98,12 +102,13 @@ fn number(random: &mut Random) -> [u8; NUMBER_LENGTH] {
     number
 }
 
-fn class_or_baseline(random: &mut Random, point: &mut PointFields) {
+fn class_baseline_or_share(random: &mut Random, point: &mut PointFields) {
     match point {
         PointFields::Consumer(consumer) => consumer.class = random.one_of(&[0, 1, 3, 4, 255]),
         PointFields::Generator(generator) => {
             generator.baseline = random.one_of(&[0, 1_000_000, 1_000_001, u32::MAX]);
         }
+        PointFields::MixedFiring(plant) => plant.share = random.one_of(&SHARES),
     }
 }
 

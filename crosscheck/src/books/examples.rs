@@ -1,6 +1,6 @@
 //! Example books by name.
 
-use super::fields::{ConsumerFields, GeneratorFields, Head, List, PointFields};
+use super::fields::{ConsumerFields, GeneratorFields, Head, List, MixedFiringFields, PointFields};
 use crate::limits::*;
 
 /// Example M of document 01: one generator.
@@ -35,6 +35,19 @@ pub fn consumers() -> Vec<u8> {
     list.push(PointFields::Generator(GeneratorFields::flat(
         9, 100, 30_001,
     )));
+    list.book()
+}
+
+/// Two mixed-firing plants with shares of 33.3% and 40%, with a shortfall.
+pub fn plants() -> Vec<u8> {
+    let mut list = List::new(Head::EXAMPLE_M);
+    let mut first = MixedFiringFields::flat(1, 333, 300_000, 200_001);
+    for (slot, outside) in (0..).zip(&mut first.readings[..WINDOW_SLOTS]) {
+        *outside += 7 * slot;
+    }
+    list.push(PointFields::MixedFiring(first));
+    let second = MixedFiringFields::flat(2, 400, 150_003, 50_002);
+    list.push(PointFields::MixedFiring(second));
     list.book()
 }
 

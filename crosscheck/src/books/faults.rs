@@ -3,7 +3,7 @@
 
 use super::edges::OTHER_DATES;
 use super::fields::{List, PointFields};
-use super::lists::{consumer, generator, ordinary};
+use super::lists::{begun, consumer, generator, ordinary, plant};
 use super::random::Random;
 use crate::limits::*;
 
@@ -13,8 +13,8 @@ type Fault = fn(&mut Random, &mut List);
 /// For 2 or 3, then for 4 to 8.
 const HEAD_FAULTS: [Fault; 6] = [date, first_slot, loss, contract, count, mark];
 
-/// For 15, 14, 16, 17 and 18; the number is set before a digit of it.
-const POINT_FAULTS: [Fault; 5] = [number_order, digit, class_or_baseline, reading, days];
+/// For 15, 14, 16 or 50, 17 and 18; the number is set before a digit of it.
+const POINT_FAULTS: [Fault; 5] = [number_order, digit, class_baseline_or_share, reading, days];
 
 /// Breaks some of the rules.
 fn break_some(random: &mut Random, list: &mut List, faults: &[Fault]) {
@@ -32,18 +32,32 @@ pub fn head_faults(random: &mut Random) -> List {
     list
 }
 
-/// A generator, then a point with some of the faults 14 to 18.
+/// A generator, then a point with some of the faults 14 to 18, or 50 for 16.
 pub fn point_faults(random: &mut Random) -> List {
     let mut list = ordinary(random);
     list.points.clear();
     let first = generator(random, &list, 50_000);
     list.push(PointFields::Generator(first));
-    let point = if random.once_in(4) {
-        PointFields::Generator(generator(random, &list, 50_000))
-    } else {
-        PointFields::Consumer(consumer(random, &list, 50_000))
+    let point = match random.below(4) {
+        0 => PointFields::Generator(generator(random, &list, 50_000)),
+        1 => PointFields::MixedFiring(plant(random, &list, 50_000)),
+        _ => PointFields::Consumer(consumer(random, &list, 50_000)),
     };
     list.push(point);
+    break_some(random, &mut list, &POINT_FAULTS);
+    list
+}
+
+/// A mixed-firing plant, alone or behind a generator, with some of the faults 14,
+/// 15, 50 and 17; days it does not need.
+pub fn plant_faults(random: &mut Random) -> List {
+    let mut list = begun(random);
+    if random.once_in(2) {
+        let first = generator(random, &list, 50_000);
+        list.push(PointFields::Generator(first));
+    }
+    let plant = plant(random, &list, 50_000);
+    list.push(PointFields::MixedFiring(plant));
     break_some(random, &mut list, &POINT_FAULTS);
     list
 }
@@ -95,7 +109,7 @@ fn number_order(random: &mut Random, list: &mut List) {
 fn digit(random: &mut Random, list: &mut List) {
     let (place, byte) = (random.place(NUMBER_LENGTH), random.one_of(b"/:"));
     let nines = random.once_in(3);
-    if let Some((_, last)) = last_two(list) {
+    if let Some(last) = list.points.last_mut() {
         last.number()[place] = byte;
         if nines {
             *last.number() = NOT_YET_ISSUED;
@@ -103,12 +117,16 @@ fn digit(random: &mut Random, list: &mut List) {
     }
 }
 
-/// Also a baseline that its three low bytes would allow.
-fn class_or_baseline(random: &mut Random, list: &mut List) {
-    match last_two(list) {
-        Some((_, PointFields::Consumer(consumer))) => consumer.class = random.one_of(&[0, 4, 255]),
-        Some((_, PointFields::Generator(generator))) => {
+/// Also a baseline that its three low bytes would allow, and a share that its
+/// low byte would allow.
+fn class_baseline_or_share(random: &mut Random, list: &mut List) {
+    match list.points.last_mut() {
+        Some(PointFields::Consumer(consumer)) => consumer.class = random.one_of(&[0, 4, 255]),
+        Some(PointFields::Generator(generator)) => {
             generator.baseline = random.one_of(&[1_000_001, 1 << 24, u32::MAX]);
+        }
+        Some(PointFields::MixedFiring(plant)) => {
+            plant.share = random.one_of(&[WHOLE_SHARE + 1, 1 << 10, u16::MAX]);
         }
         None => {}
     }
@@ -116,7 +134,7 @@ fn class_or_baseline(random: &mut Random, list: &mut List) {
 
 fn reading(random: &mut Random, list: &mut List) {
     let too_high = random.one_of(&[HIGHEST_READING + 1, u32::MAX]);
-    if let Some((_, last)) = last_two(list) {
+    if let Some(last) = list.points.last_mut() {
         let place = random.place(last.readings().len());
         last.readings()[place] = too_high;
     }

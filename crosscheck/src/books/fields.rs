@@ -126,6 +126,37 @@ impl GeneratorFields {
     }
 }
 
+/// A mixed-firing plant's parts.
+#[derive(Clone, Debug, PartialEq, Eq)]
+pub struct MixedFiringFields {
+    /// The point number.
+    pub number: [u8; NUMBER_LENGTH],
+    /// The biomass share in tenths of a percent.
+    pub share: u16,
+    /// The twelve readings: six outside the feed-in tariff, then six inside.
+    pub readings: [u32; MIXED_FIRING_READINGS],
+}
+
+impl MixedFiringFields {
+    /// A plant with the same two readings in each slot.
+    pub fn flat(number: u128, share: u16, outside: u32, inside: u32) -> MixedFiringFields {
+        let mut readings = [outside; MIXED_FIRING_READINGS];
+        readings[WINDOW_SLOTS..].fill(inside);
+        MixedFiringFields {
+            number: point_number(number),
+            share,
+            readings,
+        }
+    }
+
+    /// The value.
+    pub fn value(&self) -> Vec<u8> {
+        let mut front = self.number.to_vec();
+        front.extend(self.share.to_be_bytes());
+        with_readings(front, &self.readings)
+    }
+}
+
 /// A point's parts.
 #[derive(Clone, Debug, PartialEq, Eq)]
 pub enum PointFields {
@@ -133,6 +164,8 @@ pub enum PointFields {
     Consumer(ConsumerFields),
     /// A generator.
     Generator(GeneratorFields),
+    /// A mixed-firing plant.
+    MixedFiring(MixedFiringFields),
 }
 
 impl PointFields {
@@ -141,6 +174,7 @@ impl PointFields {
         match self {
             PointFields::Consumer(_) => CONSUMER_TAG,
             PointFields::Generator(_) => GENERATOR_TAG,
+            PointFields::MixedFiring(_) => MIXED_FIRING_TAG,
         }
     }
 
@@ -149,6 +183,7 @@ impl PointFields {
         match self {
             PointFields::Consumer(consumer) => consumer.value(),
             PointFields::Generator(generator) => generator.value(),
+            PointFields::MixedFiring(plant) => plant.value(),
         }
     }
 
@@ -157,6 +192,7 @@ impl PointFields {
         match self {
             PointFields::Consumer(consumer) => &mut consumer.number,
             PointFields::Generator(generator) => &mut generator.number,
+            PointFields::MixedFiring(plant) => &mut plant.number,
         }
     }
 
@@ -165,6 +201,7 @@ impl PointFields {
         match self {
             PointFields::Consumer(consumer) => &mut consumer.readings,
             PointFields::Generator(generator) => &mut generator.readings,
+            PointFields::MixedFiring(plant) => &mut plant.readings,
         }
     }
 }

@@ -32,6 +32,9 @@ pub struct ToWrite<'a> {
     pub room: usize,
 }
 
+/// Numbers of lent bytes around those that are due: 53, 75 and 5,978.
+const ROOMS: [usize; 11] = [52, 53, 54, 60, 74, 75, 76, 90, 5_977, 5_978, 6_000];
+
 /// What stands in a book where head, calendar and first point are due, as far
 /// as it reaches, sometimes a byte less or more, and lent bytes around the
 /// lengths that are due.
@@ -43,7 +46,7 @@ pub fn to_write(book: &[u8], number: u64) -> ToWrite<'_> {
         calendar: book.get(23..calendar_end).unwrap_or(book),
         tag,
         value: book.get(56..value_end.min(book.len())).unwrap_or(&[]),
-        room: [52, 53, 54, 60, 5_977, 5_978, 6_000][(number % 7) as usize],
+        room: ROOMS[(number % 11) as usize],
     }
 }
 
@@ -51,6 +54,7 @@ pub fn to_write(book: &[u8], number: u64) -> ToWrite<'_> {
 fn ends(number: u64, tag: u8) -> (usize, usize, usize) {
     let value_end = match tag {
         3 => 56 + 5_975,
+        5 => 56 + 72,
         _ => 56 + 50,
     };
     match number % 13 {

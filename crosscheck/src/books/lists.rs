@@ -2,7 +2,7 @@
 //! refused unless the kind says so.
 
 use super::edges;
-use super::faults::{head_faults, point_faults};
+use super::faults::{head_faults, plant_faults, point_faults};
 use super::fields::*;
 use super::random::Random;
 use crate::book::settle_fields;
@@ -14,7 +14,7 @@ use crate::terms::{contract_is_allowed, Terms};
 pub type Kind = fn(&mut Random) -> List;
 
 /// All kinds with their names.
-pub const KINDS: [(&str, Kind); 24] = [
+pub const KINDS: [(&str, Kind); 29] = [
     ("ordinary", ordinary),
     ("boundary head", boundary_head),
     ("boundary calendar", boundary_calendar),
@@ -42,6 +42,11 @@ pub const KINDS: [(&str, Kind); 24] = [
     ("more points than a byte counts", more_than_a_byte),
     ("faults of the head", head_faults),
     ("faults of a point", point_faults),
+    ("mixed-firing plants", mixed_firing_plants),
+    ("boundary plant", boundary_plant),
+    ("highest plants", highest_plants),
+    ("contract near plants", contract_near_plants),
+    ("faults of a plant", plant_faults),
 ];
 
 /// A test day that opening accepts.
@@ -151,14 +156,35 @@ pub(super) fn generator(random: &mut Random, list: &List, level: u32) -> Generat
     generator
 }
 
-/// Puts a few consumers and generators of one level into a list.
+/// A biomass share from 0 to 1,000, often at an edge.
+fn share(random: &mut Random) -> u16 {
+    let any = random.between(0, u32::from(WHOLE_SHARE)) as u16;
+    random.one_of(&[0, 1, 333, 500, WHOLE_SHARE - 1, WHOLE_SHARE, any, any, any])
+}
+
+/// A mixed-firing plant with readings up to a level.
+pub(super) fn plant(random: &mut Random, list: &List, level: u32) -> MixedFiringFields {
+    let number = next_number(random, list);
+    let mut plant = MixedFiringFields::flat(number, share(random), 0, 0);
+    for reading in &mut plant.readings {
+        *reading = random.between(0, level);
+    }
+    plant
+}
+
+/// A point of any kind, every second one a consumer.
+fn point(random: &mut Random, list: &List, level: u32) -> PointFields {
+    match random.below(6) {
+        0 | 1 => PointFields::Generator(generator(random, list, level)),
+        2 => PointFields::MixedFiring(plant(random, list, level)),
+        _ => PointFields::Consumer(consumer(random, list, level)),
+    }
+}
+
+/// Puts a few points of one level into a list.
 fn push_points(random: &mut Random, list: &mut List, level: u32, most: u32) {
     for _ in 0..random.between(1, most) {
-        let point = if random.once_in(3) {
-            PointFields::Generator(generator(random, list, level))
-        } else {
-            PointFields::Consumer(consumer(random, list, level))
-        };
+        let point = point(random, list, level);
         list.push(point);
     }
 }
@@ -168,7 +194,8 @@ fn level(random: &mut Random) -> u32 {
     random.one_of(&[10, 1_200, 50_000, 2_000_000, 400_000_000])
 }
 
-/// Consumers of all classes and generators, with some marks.
+/// Consumers of all classes, generators and mixed-firing plants, with some
+/// marks.
 pub fn ordinary(random: &mut Random) -> List {
     let mut list = begun(random);
     mark_some(random, &mut list);
@@ -453,6 +480,19 @@ pub(super) fn whole_consumer(random: &mut Random, list: &List) -> ConsumerFields
     consumer
 }
 
+/// A mixed-firing plant whose six divisions are whole: its two readings
+/// together are a multiple of 1,000, each by itself mostly not.
+pub(super) fn whole_plant(random: &mut Random, list: &List) -> MixedFiringFields {
+    let number = next_number(random, list);
+    let mut plant = MixedFiringFields::flat(number, share(random), 0, 0);
+    for slot in 0..WINDOW_SLOTS {
+        let together = u32::from(WHOLE_SHARE) * random.between(1, 5_000);
+        plant.readings[slot] = random.between(0, together);
+        plant.readings[WINDOW_SLOTS + slot] = together - plant.readings[slot];
+    }
+    plant
+}
+
 /// A generator that makes the total a multiple of 3,000.
 pub(super) fn filling_generator(random: &mut Random, list: &List) -> GeneratorFields {
     let total = total_of(list).unwrap_or(0);
@@ -466,8 +506,12 @@ pub(super) fn filling_generator(random: &mut Random, list: &List) -> GeneratorFi
 pub fn without_remainder(random: &mut Random) -> List {
     let mut list = begun(random);
     for _ in 0..random.between(1, 3) {
-        let consumer = whole_consumer(random, &list);
-        list.push(PointFields::Consumer(consumer));
+        let point = if random.once_in(3) {
+            PointFields::MixedFiring(whole_plant(random, &list))
+        } else {
+            PointFields::Consumer(whole_consumer(random, &list))
+        };
+        list.push(point);
     }
     let mut generator = filling_generator(random, &list);
     generator.readings[1] += random.one_of(&[0, 0, 1, 2_999]);
@@ -496,13 +540,19 @@ pub fn contract_near_settled(random: &mut Random) -> List {
         filling.readings[0] -= (total + 6_000_000).rem_euclid(3_000) as u32;
     }
     list.push(PointFields::Generator(filling));
-    let settled = total_of(&list).unwrap_or(0).div_euclid(3_000);
+    set_contract_near_settled(random, &mut list);
+    list
+}
+
+/// The contract becomes the settled capacity, one below or one above, where
+/// that is allowed.
+fn set_contract_near_settled(random: &mut Random, list: &mut List) {
+    let settled = total_of(list).unwrap_or(0).div_euclid(3_000);
     let near = settled + i64::from(random.between(0, 2)) - 1;
     let contract = u32::try_from(near).unwrap_or(0);
     if contract_is_allowed(contract) {
         list.head.contract = contract;
     }
-    list
 }
 
 /// A list of generators, numbers rising in steps.
@@ -523,4 +573,63 @@ pub fn many_generators(random: &mut Random) -> List {
 /// Around 256 generators.
 pub fn more_than_a_byte(random: &mut Random) -> List {
     generators(random, 254, 260)
+}
+
+/// Mixed-firing plants alone.
+pub fn mixed_firing_plants(random: &mut Random) -> List {
+    let mut list = begun(random);
+    let level = level(random);
+    for _ in 0..random.between(1, 8) {
+        let plant = plant(random, &list, level);
+        list.push(PointFields::MixedFiring(plant));
+    }
+    list
+}
+
+/// A mixed-firing plant with its share or some of its readings at an edge or
+/// beyond it, alone or behind other points.
+pub fn boundary_plant(random: &mut Random) -> List {
+    let mut list = begun(random);
+    if random.once_in(2) {
+        push_points(random, &mut list, 50_000, 2);
+    }
+    let mut plant = plant(random, &list, 2_000_000);
+    if random.once_in(2) {
+        plant.share = random.one_of(&edges::SHARES);
+    }
+    for _ in 0..random.between(0, 3) {
+        let place = random.place(MIXED_FIRING_READINGS);
+        let beyond = HIGHEST_READING + 1;
+        plant.readings[place] = random.one_of(&[0, 1, HIGHEST_READING, HIGHEST_READING, beyond]);
+    }
+    list.push(PointFields::MixedFiring(plant));
+    list
+}
+
+/// Mixed-firing plants with readings 0, 1 or the highest: results up to twice
+/// the highest reading.
+pub fn highest_plants(random: &mut Random) -> List {
+    let mut list = begun(random);
+    for _ in 0..random.between(1, 4) {
+        let mut plant = plant(random, &list, 0);
+        for reading in &mut plant.readings {
+            *reading = random.one_of(&[0, 1, HIGHEST_READING, HIGHEST_READING]);
+        }
+        list.push(PointFields::MixedFiring(plant));
+    }
+    list
+}
+
+/// Mixed-firing plants alone with a contract at the settled capacity, one below
+/// or one above.
+pub fn contract_near_plants(random: &mut Random) -> List {
+    let mut list = begun(random);
+    list.head.contract = 0;
+    for _ in 0..random.between(1, 3) {
+        let mut plant = plant(random, &list, 9_000_000);
+        plant.share = random.between(0, 900) as u16;
+        list.push(PointFields::MixedFiring(plant));
+    }
+    set_contract_near_settled(random, &mut list);
+    list
 }

@@ -21,15 +21,15 @@ pub struct Sequence {
     pub calls: Vec<Call>,
 }
 
-/// The sequence of a number: three of eight are over a list made for demand 3,
-/// the others over a list of any other kind.
+/// The sequence of a number: every second stretch is over lists made for demand
+/// 3, one of each kind, the others over lists of any other kind.
 pub fn seeded_sequence(number: u64) -> Sequence {
     let mut random = Random::new(number);
-    let (kind, make) = match number % 8 {
-        5 => SHORTFALL_KINDS[0],
-        6 => SHORTFALL_KINDS[1],
-        7 => SHORTFALL_KINDS[2],
-        _ => random.one_of(&KINDS),
+    let made_for_it = SHORTFALL_KINDS.len();
+    let place = number as usize % (2 * made_for_it);
+    let (kind, make) = match place.checked_sub(made_for_it) {
+        Some(place) => SHORTFALL_KINDS[place],
+        None => random.one_of(&KINDS),
     };
     let list = make(&mut random);
     sequence_over(&mut random, kind, &list)
@@ -137,14 +137,14 @@ fn spoil(random: &mut Random, given: &mut Given) {
     let number_digit = random.place(NUMBER_LENGTH);
     match random.below(8) {
         0 => given.places = random.one_of(&[0, 5, 7]),
-        1 => given.tag = random.one_of(&[0, 1, 2, 5, 6, 255]),
+        1 => given.tag = random.one_of(&[0, 1, 2, 6, 7, 255]),
         2 => given.value.push(0),
         3 => given.value.truncate(random.place(GENERATOR_LENGTH)),
         4 => put(given, 0, &NOT_YET_ISSUED),
         5 => put(given, number_digit, &[random.one_of(b"/:a")]),
-        6 => put(given, NUMBER_LENGTH, &[255]), // class, or baseline's high byte
+        6 => put(given, NUMBER_LENGTH, &[255]), // class, or high byte of baseline or share
         _ => {
-            // The high byte of a reading, for consumers and generators alike.
+            // The high byte of the last reading, for all kinds alike.
             let end = given.value.len().saturating_sub(READING_LENGTH);
             put(given, end, &[255]);
         }

@@ -7,10 +7,13 @@ use super::random::Random;
 use crate::limits::*;
 
 /// The kinds of them with their names.
-pub const SHORTFALL_KINDS: [(&str, Kind); 3] = [
+pub const SHORTFALL_KINDS: [(&str, Kind); 6] = [
     ("consumers near the allowance", consumers_near_allowance),
     ("generators at the allowance", generators_at_allowance),
     ("one remainder", one_remainder),
+    ("plants near the allowance", plants_near_allowance),
+    ("one remainder of a plant", one_remainder_of_a_plant),
+    ("plants whole together", plants_whole_together),
 ];
 
 /// Two watts a point, in Wh of the window.
@@ -79,6 +82,58 @@ pub fn one_remainder(random: &mut Random) -> List {
     let mut consumer = whole_consumer(random, &list);
     consumer.window(0, list.head.first_slot)[random.place(WINDOW_SLOTS)] += 1;
     list.push(PointFields::Consumer(consumer));
+    let generator = filling_generator(random, &list);
+    list.push(PointFields::Generator(generator));
+    list
+}
+
+/// Mixed-firing plants whose six divisions each leave 999 thousandths of a Wh,
+/// and a total one below a multiple of 3,000: the printed shortfall is nearly
+/// as far off as it may be.
+pub fn plants_near_allowance(random: &mut Random) -> List {
+    let mut list = begun(random);
+    list.head.contract = HIGHEST_CONTRACT;
+    // A thousandth of what is metered counts: 5,000.999 Wh in each slot.
+    let share = WHOLE_SHARE - 1;
+    let inside = random.between(0, 1_000_999);
+    for number in 1..=random.between(1, 4) {
+        let plant = MixedFiringFields::flat(u128::from(number), share, 5_000_999 - inside, inside);
+        list.push(PointFields::MixedFiring(plant));
+    }
+    let excess = (total_of(&list).unwrap_or(0) + 1).rem_euclid(3_000);
+    if let Some(last) = list.points.last_mut() {
+        last.readings()[0] -= 1_000 * excess as u32;
+    }
+    list
+}
+
+/// A mixed-firing plant of whose divisions one alone leaves a remainder, by
+/// either of its two readings in any slot, and a total that is a multiple of
+/// 3,000.
+pub fn one_remainder_of_a_plant(random: &mut Random) -> List {
+    let mut list = begun(random);
+    list.head.contract = HIGHEST_CONTRACT;
+    let mut plant = whole_plant(random, &list);
+    // With a share of 0 or of the whole a Wh more is a whole result.
+    let any = random.between(1, u32::from(WHOLE_SHARE) - 1) as u16;
+    plant.share = random.one_of(&[1, 333, 500, WHOLE_SHARE - 1, any, any]);
+    plant.readings[random.place(MIXED_FIRING_READINGS)] += 1;
+    list.push(PointFields::MixedFiring(plant));
+    let generator = filling_generator(random, &list);
+    list.push(PointFields::Generator(generator));
+    list
+}
+
+/// Mixed-firing plants whose divisions are whole, while each of the two readings
+/// divided by itself mostly is not, and a total that is a multiple of 3,000:
+/// printed and exact shortfall are the same.
+pub fn plants_whole_together(random: &mut Random) -> List {
+    let mut list = begun(random);
+    list.head.contract = HIGHEST_CONTRACT;
+    for _ in 0..random.between(1, 3) {
+        let plant = whole_plant(random, &list);
+        list.push(PointFields::MixedFiring(plant));
+    }
     let generator = filling_generator(random, &list);
     list.push(PointFields::Generator(generator));
     list

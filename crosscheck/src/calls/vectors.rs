@@ -1,6 +1,7 @@
 //! The stored calls: boundary values of every field, faults in every
 //! combination, states that no call gave, and seeded lists call by call.
 
+mod plants;
 mod writing;
 
 use super::{Call, MOST_BYTES, MOST_PLACES};
@@ -30,6 +31,7 @@ pub fn stored_calls() -> Vec<Call> {
         consumer_faults(),
         eligible_days_left(),
         seeded_lists(),
+        plants::plant_calls(),
         writing::writing_calls(),
     ];
     parts.concat()
@@ -63,6 +65,14 @@ const CONTRACTS: [u32; 10] = [
 ];
 const COUNTS: [u32; 9] = [0, 1, 2, 255, 256, 9_999, 10_000, 10_001, 65_535];
 const MARKS: [u8; 5] = [1, 2, 3, 4, 255];
+const READINGS: [u32; 6] = [
+    0,
+    1,
+    HIGHEST_READING - 1,
+    HIGHEST_READING,
+    HIGHEST_READING + 1,
+    u32::MAX,
+];
 
 fn opening(head: Head, marks: [u8; DAYS_BACK]) -> Call {
     Call::Opening {
@@ -182,7 +192,8 @@ fn opening_dates() -> Vec<Call> {
     dates.iter().map(opening_on).collect()
 }
 
-/// Whether a set of faults holds one; the bit of a fault is its refusal.
+/// Whether a set of faults holds one; the bit of a fault is its refusal, and 50
+/// has that of 16, at whose place it stands.
 fn holds(faults: u32, refusal: u32) -> bool {
     faults >> refusal & 1 == 1
 }
@@ -392,7 +403,7 @@ fn faulty_generator(faults: u32) -> Call {
     }
     Call::Adding {
         state,
-        tag: if holds(faults, 11) { 5 } else { GENERATOR_TAG },
+        tag: if holds(faults, 11) { 6 } else { GENERATOR_TAG },
         places: lent(if holds(faults, 13) { 7 } else { 6 }),
         value,
     }
@@ -414,11 +425,11 @@ fn adding_tags_and_lengths() -> Vec<Call> {
         calls.push(adding(&state, tag, value));
     };
     for tag in [0, 1, 2, 3, 4, 5, 6, 7, 127, 128, 255] {
-        for length in [0, 1, 17, 21, 22, 23, 26, 30, 49, 50, 51, 72] {
+        for length in [0, 1, 17, 21, 22, 23, 26, 30, 49, 50, 51, 71, 72, 73] {
             with(tag, length);
         }
     }
-    for tag in [CONSUMER_TAG, GENERATOR_TAG] {
+    for tag in [CONSUMER_TAG, GENERATOR_TAG, MIXED_FIRING_TAG] {
         for length in [5_974, 5_975, 5_976, MOST_BYTES] {
             with(tag, length);
         }
@@ -479,17 +490,9 @@ fn adding_numbers() -> Vec<Call> {
 fn generator_edges() -> Vec<Call> {
     let state = begun_state();
     let mut calls = Vec::new();
-    let readings = [
-        0,
-        1,
-        HIGHEST_READING - 1,
-        HIGHEST_READING,
-        HIGHEST_READING + 1,
-        u32::MAX,
-    ];
     for baseline in [0, 1, 999_999, 1_000_000, 1_000_001, 1 << 24, u32::MAX] {
         for slot in 0..WINDOW_SLOTS {
-            for reading in readings {
+            for reading in READINGS {
                 let mut generator = GeneratorFields::flat(LAST + 1, baseline, 250_000_000);
                 generator.readings[slot] = reading;
                 calls.push(adding(&state, GENERATOR_TAG, generator.value()));
@@ -600,7 +603,7 @@ fn calls_of_lists(kinds: &[(Kind, usize)], seed: u64) -> Vec<Call> {
 
 /// Seeded lists of each kind, more of those with few consumers.
 fn seeded_lists() -> Vec<Call> {
-    let kinds: [(Kind, usize); 14] = [
+    let kinds: [(Kind, usize); 18] = [
         (ties, 8),
         (quarter_rule_limit, 12),
         (several_dropped, 8),
@@ -615,6 +618,10 @@ fn seeded_lists() -> Vec<Call> {
         (ordinary, 4),
         (total_near_multiple, 40),
         (many_generators, 4),
+        (mixed_firing_plants, 10),
+        (boundary_plant, 16),
+        (highest_plants, 5),
+        (contract_near_plants, 12),
     ];
     calls_of_lists(&kinds, 8_796)
 }

@@ -155,6 +155,13 @@ pub fn naive_exact_results(list: &List, point: &PointFields) -> Option<Vec<Fract
             let result = |&reading| Fraction::whole(i128::from(reading)).minus(at_baseline);
             Some(generator.readings.iter().map(result).collect())
         }
+        PointFields::MixedFiring(plant) => {
+            let (outside, inside) = plant.readings.split_at(6);
+            let left = 1_000 - i128::from(plant.share);
+            let counted = |&reading: &u32| Fraction::whole(i128::from(reading)).times(left, 1_000);
+            let result = |(outside, inside)| counted(outside).plus(counted(inside));
+            Some(outside.iter().zip(inside).map(result).collect())
+        }
     }
 }
 
@@ -203,9 +210,23 @@ pub fn generator(number: u128, baseline: u32, reading: u32) -> PointFields {
     PointFields::Generator(GeneratorFields::flat(number, baseline, reading))
 }
 
+/// A mixed-firing plant as a point.
+pub fn plant(number: u128, share: u16, outside: u32, inside: u32) -> PointFields {
+    PointFields::MixedFiring(MixedFiringFields::flat(number, share, outside, inside))
+}
+
 /// A high voltage consumer with 1,200 everywhere as a point.
 pub fn level_consumer(number: u128) -> PointFields {
     PointFields::Consumer(ConsumerFields::flat(number, 2, 1_200))
+}
+
+/// An allowed point of each kind, with the number given.
+pub fn a_point_of_each_kind(number: u128) -> [PointFields; 3] {
+    [
+        level_consumer(number),
+        generator(number, 0, 1),
+        plant(number, 333, 1, 1),
+    ]
 }
 
 /// The length of a written point.

@@ -14,10 +14,10 @@ use std::process::{Child, Command, Output, Stdio};
 use std::thread;
 use std::time::Duration;
 
-use settlement::books::examples::{consumer_of_example_h, consumers, example_m};
-use settlement::books::fields::{GeneratorFields, Head, List, PointFields};
+use settlement::books::examples::{consumer_of_example_h, consumers, example_m, plants};
+use settlement::books::fields::{GeneratorFields, Head, List, MixedFiringFields, PointFields};
 use settlement::books::seeded_book;
-use settlement::limits::HIGHEST_COUNT;
+use settlement::limits::{HIGHEST_COUNT, WRITTEN_HEAD_LENGTH};
 use settlement::text::settle_book_text;
 
 /// Feeds a book in pieces of at most so many bytes, with a pause behind each. A book that is refused
@@ -56,10 +56,17 @@ fn consumer(number: u32) -> PointFields {
     ))
 }
 
-/// Every tenth point is a consumer.
+fn plant(number: u32) -> PointFields {
+    let share = (number % 1_001) as u16;
+    let fields = MixedFiringFields::flat(u128::from(number), share, number * 13, number * 7);
+    PointFields::MixedFiring(fields)
+}
+
+/// Every tenth point is a consumer, every third of the others a mixed-firing plant.
 fn mixed(number: u32) -> PointFields {
     match number % 10 {
         0 => consumer(number),
+        3 | 6 | 9 => plant(number),
         _ => generator(number),
     }
 }
@@ -145,9 +152,10 @@ impl Trial {
 
     fn long_books(&mut self) {
         self.settles_alone("book of 700 points", long_book(700, mixed));
-        let kinds: [(&str, fn(u32) -> PointFields); 3] = [
+        let kinds: [(&str, fn(u32) -> PointFields); 4] = [
             ("points", mixed),
             ("generators", generator),
+            ("plants", plant),
             ("consumers", consumer),
         ];
         for (kind, point) in kinds {
@@ -158,13 +166,16 @@ impl Trial {
 
     /// Reads that give fewer bytes than are due, and books that end early.
     fn short_reads(&mut self) {
-        let (m, consumers) = (example_m(), consumers());
+        let (m, plants, consumers) = (example_m(), plants(), consumers());
         self.prints_in_pieces("byte by byte", &m, &settle_book_text(&m), 1, 1);
         let text = settle_book_text(&consumers);
         self.prints_in_pieces("pieces of 1,000 bytes", &consumers, &text, 1_000, 1);
         self.prints("empty input", &[], "refused 31\n");
         for end in 1..m.len() {
             self.agrees(&format!("example M cut at byte {end}"), &m[..end]);
+        }
+        for end in WRITTEN_HEAD_LENGTH..plants.len() {
+            self.agrees(&format!("plants cut at byte {end}"), &plants[..end]);
         }
     }
 

@@ -1,6 +1,7 @@
 //! Stored calls of writing: what openings and addings are given, with lent
 //! bytes of lengths around the one that is due.
 
+use super::plants::{faulty_plant, plant_edges};
 use super::*;
 
 /// Lengths of lent bytes, counted from the one that is due, in turns; the
@@ -19,6 +20,8 @@ pub fn writing_calls() -> Vec<Call> {
     let consumer_sets = sets_of(&[14, 16, 17]);
     let faulty_generators: Vec<Call> = generator_sets.into_iter().map(faulty_generator).collect();
     let faulty_consumers: Vec<Call> = consumer_sets.into_iter().map(faulty_consumer).collect();
+    let plant_sets = sets_of(&[11, 12, 14, 16, 17]);
+    let faulty_plants: Vec<Call> = plant_sets.into_iter().map(faulty_plant).collect();
     let parts = [
         every_room(),
         writing(opening_edges(), &ROOMS),
@@ -35,6 +38,9 @@ pub fn writing_calls() -> Vec<Call> {
         writing(faulty_consumers, &EXACT),
         writing(consumer_edges(), &ROOMS),
         consumer_tags_and_numbers(),
+        writing(faulty_plants.clone(), &ONE_SHORT),
+        writing(faulty_plants, &EXACT),
+        writing(plant_edges(), &ROOMS),
         seeded_writing(),
     ];
     parts.concat()
@@ -81,6 +87,16 @@ fn uneven_generator() -> GeneratorFields {
     }
 }
 
+/// A mixed-firing plant with no two bytes behind its number alike.
+fn uneven_plant() -> MixedFiringFields {
+    let first = |place: usize| 4 * place as u32 + 4;
+    MixedFiringFields {
+        number: point_number(2_109_876_543_210_987_654_321),
+        share: 0x0203,
+        readings: std::array::from_fn(|place| 0x0101_0101 * first(place) + 0x0001_0203),
+    }
+}
+
 /// A consumer with other readings everywhere.
 fn uneven_consumer() -> ConsumerFields {
     let mut consumer = ConsumerFields::flat(9_876_543_210_987_654_321_098, 2, 0);
@@ -98,13 +114,16 @@ fn every_room() -> Vec<Call> {
     let head = opening(HEAD, marks);
     let generator = adding(&state, GENERATOR_TAG, uneven_generator().value());
     let consumer = adding(&state, CONSUMER_TAG, uneven_consumer().value());
+    let plant = adding(&state, MIXED_FIRING_TAG, uneven_plant().value());
     let mut rooms: Vec<isize> = (-53..=53).collect();
     rooms.extend([202, 203, 204, 5_925, 5_947]);
+    let plant_rooms: Vec<isize> = (-75..=75).chain([5_903, 5_925]).collect();
     let consumer_rooms = [isize::MIN, -5_977, -5_925, -4, -3, -2, -1, 0, 1, 2, 21, 22];
     [
         writing(vec![head; rooms.len()], &rooms),
         writing(vec![generator; rooms.len()], &rooms),
         writing(vec![consumer; consumer_rooms.len()], &consumer_rooms),
+        writing(vec![plant; plant_rooms.len()], &plant_rooms),
     ]
     .concat()
 }
@@ -126,7 +145,10 @@ fn consumer_tags_and_numbers() -> Vec<Call> {
     no_digit[NUMBER_LENGTH - 1] = b':';
     let numbers = [NOT_YET_ISSUED, nearly_nines, no_digit];
     [
-        writing([2, 2, 4, 4, 5, 5].map(with_tag).to_vec(), &[-5_978, -5_900]),
+        writing(
+            [2, 2, 4, 4, 5, 5, 6, 6].map(with_tag).to_vec(),
+            &[-5_978, -5_900],
+        ),
         writing(numbers.map(with_number).to_vec(), &[0, 0, -5_900]),
     ]
     .concat()
@@ -134,7 +156,7 @@ fn consumer_tags_and_numbers() -> Vec<Call> {
 
 /// Heads and points of seeded lists, some at an edge or beyond it.
 fn seeded_writing() -> Vec<Call> {
-    let kinds: [(Kind, usize); 8] = [
+    let kinds: [(Kind, usize); 10] = [
         (ordinary, 4),
         (boundary_head, 3),
         (boundary_calendar, 3),
@@ -143,6 +165,8 @@ fn seeded_writing() -> Vec<Call> {
         (highest_figures, 2),
         (total_near_multiple, 4),
         (many_generators, 2),
+        (mixed_firing_plants, 3),
+        (boundary_plant, 12),
     ];
     writing(calls_of_lists(&kinds, 53), &ROOMS)
 }
