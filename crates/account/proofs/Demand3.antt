@@ -18,7 +18,7 @@ use Rattle.results.specs.SlotResults.{Quotient, quotients}
 use Rattle.ledger.specs.States.{opened, noState, slotTotals, taken}
 use Rattle.figures.specs.Figures.{settledOf, figuresOf}
 use Rattle.ledger.specs.Operations.{pointRefusal, addingRefusal, resultsOf, closingRefusal, closeOf}
-use Rattle.account.specs.Account.{Account, product, partsOfkW, partsOfWatt, partsOfWh, exactly, exactSum, exactShortfall, opening, Said, said, saysOf, allRefused, account}
+use Rattle.account.specs.Account.{Account, partsOfkW, partsOfWatt, partsOfWh, exactly, exactSum, exactShortfall, opening, Said, said, saysOf, allRefused, account}
 use Rattle.account.specs.Demand3.{takenBefore, takenAll, allQuotients, roundedTotal, noRemainder, noLoss, keepsFractions, Accurate, Agree, both-refuse, both-accept, both-close, AgreeAll, end, next, Demand3}
 use Rattle.heads.specs.declared.Head.{Head}
 use Rattle.ledger.specs.declared.State.{State}
@@ -61,8 +61,8 @@ module _ (h : Head) (marks : List ℕ) where
   unfolding noRemainder
   no-loss ps figures = ap (λ wholly. leZ (pos (h .contract)) (figures .settled) || wholly && divides 3_000 (roundedTotal h marks ps)) (wholes h marks ps)
 
-parts : (v : ℕ) → (3_000 * (24_000 * v) ≡ 72_000_000 * v) × (3 * (24_000 * v) ≡ 72_000 * v)
-parts v = (omega arith, omega arith)
+parts : (h : Head) → (3_000 * partsOfWh h ≡ partsOfkW h) × (3 * partsOfWh h ≡ partsOfWatt h)
+parts h = (omega arith, omega arith)
 
 module _ (state : State) (sum : ℤ) (ps : List Point) (a : Along state sum ps) where
   abbrev quotientsSoFar : List Quotient
@@ -96,7 +96,7 @@ module _ (state : State) (sum : ℤ) (ps : List Point) (a : Along state sum ps) 
   accurate =
       let h = state .head in
       let c = compared (partsOfWh h) (partsOfkW h) (partsOfWatt h) (length ps) (h .contract) (wh-pos h (opens h (state .marks) (a .sound .content)))
-      (parts (product h) .0) (parts (product h) .1) quotientsSoFar (a .kept) (a .sixes) in
+      (parts h .0) (parts h .1) quotientsSoFar (a .kept) (a .sixes) in
       record {
         counted = a .count;
         total = a .total;

@@ -16,7 +16,7 @@ use Rattle.integers.specs.Integers.{divides}
 use Rattle.numbers.proofs.Filling.{any-append}
 use Rattle.integers.proofs.Floors.{divides-one}
 use Rattle.points.specs.Points.{Point, Kind, consumer, generator, mixedFiring, unknown, kindOf, classOf, isUnfit, baselineOf, readingsOf}
-use Rattle.results.specs.SlotResults.{generatorQuotient, quotients}
+use Rattle.results.specs.SlotResults.{lossOf, generatorQuotient, quotients}
 use Rattle.account.specs.Account.{product, partsOfWh}
 use Rattle.account.specs.Demand3.{divisionsBy, divisions, allQuotients}
 use Rattle.heads.specs.declared.Head.{Head}
@@ -46,13 +46,16 @@ class-goes h (suc (suc zero)) l m = three (10_000 - getD (h .losses) 0 0) (10_00
 class-goes h (suc (suc (suc zero))) l m = three (10_000 - getD (h .losses) 0 0) (10_000 - getD (h .losses) 1 0) (10_000 - getD (h .losses) 2 0) .2
 class-goes h (suc (suc (suc (suc class)))) l m = absurd (omega arith)
 
+consumer-goes : (h : Head) (value : List ℕ) → isUnfit consumer value ≡ false → T (divides (24 * (10_000 - lossOf h value)) (pos (partsOfWh h)))
+consumer-goes h value fit =
+    let t = both (leb 1 (classOf value)) (leb (classOf value) 3) fit in
+    class-goes h (classOf value) (leb-yes (t .0)) (leb-yes (t .1))
+
 -- A line for each kind of point.
 pub goes-by : (h : Head) (marks : List ℕ) (kind : Kind) (value : List ℕ) → isUnfit kind value ≡ false
     → T (every (goesInto (partsOfWh h)) (quotients h marks kind value))
 unfolding quotients any
-goes-by h marks consumer value fit =
-    let t = both (leb 1 (classOf value)) (leb (classOf value) 3) fit in
-    every-run (goesInto (partsOfWh h)) _ 0 6 λ j hj. class-goes h (classOf value) (leb-yes (t .0)) (leb-yes (t .1))
+goes-by h marks consumer value fit = every-run (goesInto (partsOfWh h)) _ 0 6 λ j hj. consumer-goes h value fit
 goes-by h marks generator value fit = every-run (goesInto (partsOfWh h)) _ 0 6 λ j hj. divides-one (pos (partsOfWh h))
 goes-by h marks mixedFiring value fit = every-run (goesInto (partsOfWh h)) _ 0 6 λ j hj. share-goes h
 goes-by h marks unknown value fit = tt

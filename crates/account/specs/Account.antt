@@ -32,6 +32,7 @@ product h = (10_000 - getD (h .losses) 0 0) * (10_000 - getD (h .losses) 1 0) * 
 abbrev pub partsOfkW : Head → ℕ
 partsOfkW h = 72_000_000 * product h
 
+-- a watt is a 1,000th of a kW
 abbrev pub partsOfWatt : Head → ℕ
 partsOfWatt h = 72_000 * product h
 

@@ -5,24 +5,37 @@ use crate::text;
 use points::MIXED_FIRING;
 use points::MIXED_FIRING_LENGTH;
 
-fn line(share: u16, outside: u32, inside: u32, paper: &[u8]) {
-    let state = handed::opened(0);
+// On thirty marks of 1: a plant asks for no days.
+fn put_answer(share: u16, outside: u32, inside: u32) {
+    let state = handed::opened(1);
     let mut value = [0u8; MIXED_FIRING_LENGTH];
     handed::put_mixed_firing(&mut value, share, outside, inside);
     adding::add(state, MIXED_FIRING, &value);
-    text::paper(paper);
 }
 
 // 100,002 × 667 ÷ 1,000 = 66,701.334; of 66,700.667 and 0.667, rounded apart, 66,700 would be left.
-pub fn examples() {
+fn results() {
     text::put(b"adding share 333, readings 100001 and 1:");
-    line(333, 100001, 1, b"66701 in each");
+    put_answer(333, 100001, 1);
+    text::by_hand(b"66701 in each");
     text::put(b"adding share 0, readings 1000000000 twice:");
-    line(0, 1000000000, 1000000000, b"2000000000 in each");
+    put_answer(0, 1000000000, 1000000000);
+    text::by_hand(b"2000000000 in each");
     text::put(b"adding share 1000, readings 100001 and 1:");
-    line(1000, 100001, 1, b"0 in each");
+    put_answer(1000, 100001, 1);
+    text::by_hand(b"0 in each");
+}
+
+fn refusals() {
     text::put(b"adding share 1001, readings 100001 and 1000000001:");
-    line(1001, 100001, 1000000001, b"50");
+    put_answer(1001, 100001, 1000000001);
+    text::paper(b"50");
     text::put(b"adding share 1000, readings 100001 and 1000000001:");
-    line(1000, 100001, 1000000001, b"17");
+    put_answer(1000, 100001, 1000000001);
+    text::paper(b"17");
+}
+
+pub fn examples() {
+    results();
+    refusals();
 }

@@ -31,6 +31,13 @@ pub fn results(list: &[i64]) {
     }
 }
 
+// A value that was worked out by the paper's formula ends the line.
+pub fn by_hand(value: &[u8]) {
+    put(b" (by hand ");
+    put(value);
+    put(b")\n");
+}
+
 // What the paper says ends the line.
 pub fn paper(value: &[u8]) {
     put(b" (paper ");

@@ -65,14 +65,14 @@ beforeValue h points last tag value places =
 abbrev pub givenTests : Head → ℕ → List ℕ → ℕ → List ℕ → ℕ → List (Bool × ℕ)
 givenTests h points last tag value places = beforeValue h points last tag value places ++ valueRows tag value
 
--- 10 to 18: the refusals other than 9, for the head and calendar, the points taken and the last number, and what is given
+-- 10 to 18, with 50 in the place of 16: the refusals other than 9, for the head and calendar, the points taken and the last number, and what is given
 abbrev pub pointTests : Head → List ℕ → ℕ → List ℕ → ℕ → List ℕ → ℕ → List (Bool × ℕ)
 pointTests h marks points last tag value places = givenTests h points last tag value places ++ daysRow h marks tag value
 
 unfoldable pub pointRefusal : Head → List ℕ → ℕ → List ℕ → ℕ → List ℕ → ℕ → ℕ
 pointRefusal h marks points last tag value places = firstOf (pointTests h marks points last tag value places)
 
--- 9 to 18, for a tag, a value and the number of places lent
+-- 9 to 18, with 50 in the place of 16, for a tag, a value and the number of places lent
 abbrev pub addingTests : State → ℕ → List ℕ → ℕ → List (Bool × ℕ)
 addingTests state tag value places =
     unsoundRow state ++ pointTests (state .head) (state .marks) (state .points) (state .last) tag value places
@@ -80,7 +80,7 @@ addingTests state tag value places =
 unfoldable pub addingRefusal : State → ℕ → List ℕ → ℕ → ℕ
 addingRefusal state tag value places = firstOf (addingTests state tag value places)
 
--- in the steps of the code: the state, 9 and 10, and all that comes before the days, 9 to 17
+-- in the steps of the code: the state, 9 and 10, and all that comes before the days, 9 to 17 or 50
 abbrev pub stateRows : State → List (Bool × ℕ)
 stateRows state = unsoundRow state ++ reachedRow (state .head) (state .points)
 

@@ -38,7 +38,7 @@ fn state_refusal(state: State) -> u32
     refusals::ACCEPTED
 }
 
-// 9 to 17: all that is told before the days are chosen.
+// 9 to 17, with 50 in the place of 16: all that is told before the days are chosen.
 pub fn early_refusal(state: State, tag: u8, value: &[u8], places: usize) -> u32
     ensures { λ r. ⌜ r ≡ earlyRefusal state tag (now (value .entry)) places ⌝ }
 {

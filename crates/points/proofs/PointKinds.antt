@@ -11,7 +11,8 @@ use Rattle.numbers.specs.Refusals.{firstOf}
 use Rattle.numbers.proofs.Refusals.{numbered, clear, untold}
 use Rattle.numbers.specs.PointNumbers.{numberLength}
 use Rattle.readings.specs.Readings.{readingLength}
-use Rattle.points.specs.Points.{consumerTag, generatorTag, mixedFiringTag, consumerLength, generatorLength, Kind, consumer, generator, mixedFiring, unknown, kindOf, isUnknown, sizeOf, readingsAt, readingsIn, isUnfit, hasLarge, unfitNumber, formRows, valueRows}
+use Rattle.points.specs.Points.{consumerTag, generatorTag, mixedFiringTag, consumerLength, Kind, consumer, generator, mixedFiring, unknown, kindOf}
+use Rattle.points.specs.Points.{isUnknown, sizeOf, readingsAt, readingsIn, isUnfit, hasLarge, unfitNumber, formRows, valueRows}
 
 module _ (tag : ℕ) where
   pub is-consumer : tag ≡ consumerTag → kindOf tag ≡ consumer
@@ -30,8 +31,8 @@ module _ (tag : ℕ) where
   pub is-unknown : Other → kindOf tag ≡ unknown
   is-unknown n = simp (ne-eqb tag consumerTag (n .0), ne-eqb tag generatorTag (n .1), ne-eqb tag mixedFiringTag (n .2))
 
--- every kind of point has a length, and none is longer than a consumer
-pub known-length : (kind : Kind) → isUnknown kind ≡ false → generatorLength ≤ sizeOf kind
+-- every kind of point has room for its number, and none is longer than a consumer
+pub known-length : (kind : Kind) → isUnknown kind ≡ false → numberLength ≤ sizeOf kind
 known-length consumer e = omega arith
 known-length generator e = omega arith
 known-length mixedFiring e = omega arith

@@ -123,7 +123,7 @@ hasLarge kind value = ltb (firstLarge (readingsOf kind value) (readingsIn kind))
 
 -- THE ROWS that a point's tag and value alone decide: adding's table and that of writing are joined from them.
 
--- 11: 'tag not 3 or 4'; CR 1: nor 5
+-- 11: 'tag not 3 or 4'; CR 1: '11 and 12 now know tag 5'
 abbrev pub tagRow : ℕ → List (Bool × ℕ)
 tagRow tag = (isUnknown (kindOf tag), 11) ∷ []
 
@@ -139,23 +139,21 @@ formRows tag size = tagRow tag ++ lengthRow tag size
 abbrev pub numberRow : List ℕ → List (Bool × ℕ)
 numberRow number = (not (isNumber number), 14) ∷ []
 
--- 16: 'class not 1 to 3, or baseline above 1,000,000'
-abbrev pub classRow : ℕ → List (Bool × ℕ)
-classRow class = (not (isClass class), 16) ∷ []
-
-abbrev pub baselineRow : ℕ → List (Bool × ℕ)
-baselineRow kW = (ltb mostBaseline kW, 16) ∷ []
-
--- 50: 'share above 1,000, at the place of 16'
-abbrev pub shareRow : ℕ → List (Bool × ℕ)
-shareRow share = (ltb mostShare share, 50) ∷ []
-
--- the number at that place
+-- 16: 'class not 1 to 3, or baseline above 1,000,000'; CR 1: '50, share above 1,000, at the place of 16'. Of no kind it is never told.
 abbrev pub unfitNumber : Kind → ℕ
 unfitNumber consumer = 16
 unfitNumber generator = 16
 unfitNumber mixedFiring = 50
 unfitNumber unknown = 16
+
+abbrev pub classRow : ℕ → List (Bool × ℕ)
+classRow class = (not (isClass class), unfitNumber consumer) ∷ []
+
+abbrev pub baselineRow : ℕ → List (Bool × ℕ)
+baselineRow kW = (ltb mostBaseline kW, unfitNumber generator) ∷ []
+
+abbrev pub shareRow : ℕ → List (Bool × ℕ)
+shareRow share = (ltb mostShare share, unfitNumber mixedFiring) ∷ []
 
 abbrev pub unfitRow : ℕ → List ℕ → List (Bool × ℕ)
 unfitRow tag value = (isUnfit (kindOf tag) value, unfitNumber (kindOf tag)) ∷ []

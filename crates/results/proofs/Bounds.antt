@@ -63,8 +63,8 @@ consumer-small loss b u hl hb hu =
 generator-small : (kW metered : ℕ) → kW ≤ mostBaseline → metered ≤ mostReading → natAbs (rounded (generatorQuotient kW metered)) ≤ mostResult
 generator-small kW metered hk hm = rw (floor-one (pos metered -ℤ pos (500 * kW))) (simp ⊖s (omega arith))
 
--- a share of something, or what it leaves, is at most the whole
-share-most : (whole share : ℕ) → share ≤ mostShare → (whole * share ≤ whole * 1_000) × (whole * (1_000 - share) ≤ whole * 1_000)
+-- a share of something, and what it leaves, are at most the whole: both, so that a wrong share fails at its result and not here
+pub share-most : (whole share : ℕ) → share ≤ mostShare → (whole * share ≤ whole * 1_000) × (whole * (1_000 - share) ≤ whole * 1_000)
 share-most whole share h = (mul-le-mul-left whole h, mul-le-mul-left whole (omega arith))
 
 -- both readings at most, nothing of them biomass: 2,000,000,000
@@ -72,31 +72,50 @@ mixed-firing-small : (share outside inside : ℕ) → share ≤ mostShare → ou
     → natAbs (rounded (mixedFiringQuotient share outside inside)) ≤ mostResult
 mixed-firing-small share outside inside hs ho hi = omega (arith, share-most (outside + inside) share hs)
 
--- ---- by kind of point: a line for each
+-- ---- all six
 
 -- six quotients, each small once it is rounded
 none-of-six : (q : ℕ → Quotient) → ((j : ℕ) → j < 6 → natAbs (rounded (q (0 + j))) ≤ mostResult)
     → T (noneOf (λ q. isBeyond mostResult (rounded q)) (run q 0 6))
 none-of-six q h = none-run (λ q. isBeyond mostResult (rounded q)) q 0 6 λ j l. no-ltb (h j l)
 
-module _ (h : Head) (marks : List ℕ) where
-  pub small-by : Opens h → (kind : Kind) (value : List ℕ) → isUnfit kind value ≡ false → hasLarge kind value ≡ false
-      → T (noneOf (λ q. isBeyond mostResult (rounded q)) (quotients h marks kind value))
-  unfolding quotients any
-  small-by o consumer value fit small = none-of-six _ λ j l.
+module _ (h : Head) (marks : List ℕ) (o : Opens h) (value : List ℕ) where
+  -- what is due of a kind of point
+  abbrev Small : Kind → Type 0
+  Small kind = isUnfit kind value ≡ false → hasLarge kind value ≡ false → T (noneOf (λ q. isBeyond mostResult (rounded q)) (quotients h marks kind value))
+
+  consumers-small : Small consumer
+  unfolding quotients
+  consumers-small fit small = none-of-six _ λ j l.
       let readings = readingsOf consumer value in
       let tested = all-tested consumer value small in
       consumer-small (lossOf h value) _ _ (o .losses _)
       (baseline-bound (testDay h) marks readings (h .slot) tested (omega (arith, o .last-slot)) (0 + j))
       (reading-bound readings tested 0 (h .slot + (0 + j)) (omega arith) (omega arith))
-  small-by o generator value fit small = none-of-six _ λ j l.
+
+  generators-small : Small generator
+  unfolding quotients
+  generators-small fit small = none-of-six _ λ j l.
       generator-small (baselineOf value) _ (ltb-false _ _ fit)
       (none-large (readingsOf generator value) 6 (0 + j) (all-tested generator value small) (omega arith))
-  small-by o mixedFiring value fit small = none-of-six _ λ j l.
+
+  plants-small : Small mixedFiring
+  unfolding quotients
+  plants-small fit small = none-of-six _ λ j l.
       let reading = none-large (readingsOf mixedFiring value) 12 in
       let tested = all-tested mixedFiring value small in
       mixed-firing-small (shareOf value) _ _ (ltb-false _ _ fit) (reading (0 + j) tested (omega arith)) (reading (6 + (0 + j)) tested (omega arith))
-  small-by o unknown value fit small = tt
+
+-- ---- by kind of point: a line for each
+
+module _ (h : Head) (marks : List ℕ) where
+  pub small-by : Opens h → (kind : Kind) (value : List ℕ) → isUnfit kind value ≡ false → hasLarge kind value ≡ false
+      → T (noneOf (λ q. isBeyond mostResult (rounded q)) (quotients h marks kind value))
+  unfolding quotients any
+  small-by o consumer value = consumers-small h marks o value
+  small-by o generator value = generators-small h marks o value
+  small-by o mixedFiring value = plants-small h marks o value
+  small-by o unknown value = λ fit small. tt
 
   pub six-by : (kind : Kind) (value : List ℕ) → isUnknown kind ≡ false → length (quotients h marks kind value) ≡ 6
   unfolding quotients

@@ -11,7 +11,7 @@ pub slot-examples : (rounded (consumerQuotient 400 28_800 240) ≡ pos 1_000)
     × (rounded (consumerQuotient 400 28_800 1_201) ≡ negsuc 1)
 slot-examples = (refl, refl, refl, refl)
 
--- 100,002 × 667 ÷ 1,000 = 66,701.334; 1 × 1 ÷ 1,000; all wood; no wood
+-- 100,002 × 667 ÷ 1,000 = 66,701.334; 1 × 1 ÷ 1,000; biomass alone; none
 pub mixed-firing-examples : (rounded (mixedFiringQuotient 333 100_001 1) ≡ pos 66_701)
     × (rounded (mixedFiringQuotient 999 1 0) ≡ pos 0)
     × (rounded (mixedFiringQuotient 1_000 100_001 1) ≡ pos 0)

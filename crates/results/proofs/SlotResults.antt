@@ -14,7 +14,7 @@ use Rattle.integers.specs.Integers.{floorDiv}
 use Rattle.integers.proofs.Differences.{⊖s}
 use Rattle.readings.specs.Readings.{readingLength}
 use Rattle.points.specs.Points.{generatorReadingsAt, mixedFiringReadingsAt, baselineOf, shareOf}
-use Rattle.results.specs.SlotResults.{generatorQuotient, generatorQuotients, mixedFiringQuotient, mixedFiringQuotients, rounded}
+use Rattle.results.specs.SlotResults.{generatorQuotient, generatorQuotients, mixedFiringQuotient, mixedFiringSlot, mixedFiringQuotients, rounded}
 
 -- multiplied first and subtracted then, or the other way round
 pub scaled : (b u : ℕ) → pos (10_000 * b) -ℤ pos (240_000 * u) ≡ (pos b -ℤ pos (24 * u)) *ℤ pos 10_000
@@ -51,5 +51,4 @@ mixedFiringAt v j =
 
 pub mixed-firing-results : (v : List ℕ) → map rounded (mixedFiringQuotients v) ≡ run (mixedFiringAt v) 0 6
 mixed-firing-results v =
-    map-run rounded (λ j. let readings = drop mixedFiringReadingsAt v in mixedFiringQuotient (shareOf v) (word32 readings (j * readingLength)) (word32 readings ((windowSlots + j) * readingLength))) 0 6
-    ∙ simp (word32-drop v mixedFiringReadingsAt)
+    map-run rounded (mixedFiringSlot v) 0 6 ∙ simp (word32-drop v mixedFiringReadingsAt)

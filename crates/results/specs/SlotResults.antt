@@ -61,11 +61,17 @@ abbrev pub generatorQuotients : List ℕ → List Quotient
 generatorQuotients value =
     run (λ j. generatorQuotient (baselineOf value) (word32 (readingsOf generator value) (j * readingLength))) 0 windowSlots
 
--- those of a mixed-firing plant: the readings of the part inside the tariff follow the six of the part outside it
-abbrev pub mixedFiringQuotients : List ℕ → List Quotient
-mixedFiringQuotients value =
+-- slot j of a mixed-firing plant: the readings of the part inside the tariff follow the six of the part outside it
+abbrev pub mixedFiringSlot : List ℕ → ℕ → Quotient
+mixedFiringSlot value j =
     let readings = readingsOf mixedFiring value in
-    run (λ j. mixedFiringQuotient (shareOf value) (word32 readings (j * readingLength)) (word32 readings ((windowSlots + j) * readingLength))) 0 windowSlots
+    let outside = word32 readings (j * readingLength) in
+    let inside = word32 readings ((windowSlots + j) * readingLength) in
+    mixedFiringQuotient (shareOf value) outside inside
+
+-- its six
+abbrev pub mixedFiringQuotients : List ℕ → List Quotient
+mixedFiringQuotients value = run (mixedFiringSlot value) 0 windowSlots
 
 -- those of a point
 unfoldable pub quotients : Head → List ℕ → Kind → List ℕ → List Quotient

@@ -21,4 +21,4 @@ use Rattle.worked_examples.specs.Sequences.{WorkedSequences}
 
 pub worked-sequences : WorkedSequences
 unfolding run sum filter any gather sumℤ bytesOf digits same isNumber below isDate dayCount firstLarge windowSums slotSums daySums earlierUse walk lowest used chosen headOf contentRefusal openingRefusal quotients isUnsound plus taken figuresOf openOf pointRefusal addingRefusal addOf placesOf closingRefusal closeOf replies program opening saysOf account highVoltage
-worked-sequences = (refl, ((refl, refl), refl), (refl, refl), refl, (refl, refl, refl))
+worked-sequences = ((refl, refl), ((refl, refl), refl), (refl, refl), refl, (refl, refl, refl))

@@ -10,7 +10,7 @@ use Rattle.numbers.specs.Words.{bytesOf}
 use Rattle.heads.specs.Heads.{headOf}
 use Rattle.ledger.specs.Operations.{openOf, placesOf}
 use Rattle.calls.specs.Calls.{Call, adding, closing, Reply, refused, accepted, closed, program}
-use Rattle.account.specs.Account.{Said, account, partsOfkW}
+use Rattle.account.specs.Account.{Said, account, partsOfkW, partsOfWatt}
 use Rattle.worked_examples.specs.Examples.{head, highVoltage}
 use Rattle.figures.specs.declared.Figures.{Figures}
 
@@ -62,7 +62,7 @@ abbrev pub kW : ℕ
 kW = 62_995_968_000_000_000_000
 
 abbrev pub PartsOfkW : Type 0
-PartsOfkW = partsOfkW (headOf twoPoints) ≡ kW
+PartsOfkW = (partsOfkW (headOf twoPoints) ≡ kW) × (1_000 * partsOfWatt (headOf twoPoints) ≡ kW)
 
 -- WITH A REMAINDER: readings of 100,000 and a use of 241. The generator gives 6 × 100,000. The consumer's baseline is 24 × 1,200 = 28,800,
 -- so a slot gives (28,800 − 24 × 241) × 10,000 ÷ (24 × 9,600) = 998 and a rest: 998.9583.. unrounded. The total is 600,000 + 6 × 998 =
@@ -96,17 +96,23 @@ outsideTariff = 100_001 ∷ 200_001 ∷ 300_001 ∷ 400_001 ∷ 500_001 ∷ 600_
 abbrev pub insideTariff : List ℕ
 insideTariff = 1 ∷ 2 ∷ 3 ∷ 4 ∷ 5 ∷ 6 ∷ []
 
-abbrev pub tooLarge : List ℕ
-tooLarge = replicate 6 1_000_000_001
+-- the last of the twelve alone is above the limit
+abbrev pub lastTooLarge : List ℕ
+lastTooLarge = 1 ∷ 2 ∷ 3 ∷ 4 ∷ 5 ∷ 1_000_000_001 ∷ []
 
--- A closing too early, a share above 1,000 with readings above the limit, these readings alone, the plant with a share of 33.3 %, one that
--- burns wood alone, the closing.
+-- thirty marks of 1: such a plant asks for no days
+abbrev pub noDays : List ℕ
+noDays = replicate 30 1
+
+-- A closing too early, a share above 1,000 with a reading above the limit, this reading alone, the plant with a share of 33.3 %, its number
+-- again with a share above 1,000, a plant that burns biomass alone, the closing.
 abbrev pub plantCalls : List Call
 plantCalls =
     closing
-    ∷ adding 5 (mixedFiringOf 49 1_001 outsideTariff tooLarge) 6
-    ∷ adding 5 (mixedFiringOf 49 333 outsideTariff tooLarge) 6
+    ∷ adding 5 (mixedFiringOf 49 1_001 outsideTariff lastTooLarge) 6
+    ∷ adding 5 (mixedFiringOf 49 333 outsideTariff lastTooLarge) 6
     ∷ adding 5 (mixedFiringOf 49 333 outsideTariff insideTariff) 6
+    ∷ adding 5 (mixedFiringOf 49 1_001 outsideTariff insideTariff) 6
     ∷ adding 5 (mixedFiringOf 50 1_000 outsideTariff insideTariff) 6
     ∷ closing
     ∷ []
@@ -115,7 +121,7 @@ plantCalls =
 -- the first slot would give 66,700.
 abbrev pub PlantSlots : Type 0
 PlantSlots =
-    placesOf (openOf twoPoints (replicate 30 0) .state) 5 (mixedFiringOf 49 333 outsideTariff insideTariff) (replicate 6 (pos 0))
+    placesOf (openOf twoPoints noDays .state) 5 (mixedFiringOf 49 333 outsideTariff insideTariff) (replicate 6 (pos 0))
     ≡ map pos (66_701 ∷ 133_402 ∷ 200_102 ∷ 266_803 ∷ 333_504 ∷ 400_204 ∷ [])
 
 -- The total is 1,400,716, which is 466 × 3,000 and a rest; the shortfall is 1,000 − 466 = 534.
@@ -126,9 +132,10 @@ abbrev pub WithPlants : Type 0
 WithPlants =
     let exact = 533 * kW + 93_997 * 62_995_968_000_000 in
     let figures : Figures = record { total = pos 1_400_716; settled = pos 466; shortfall = 534; expected = 466; kept = 466; surplus = 0; points = 2; bid = false } in
-    (program twoPoints (replicate 30 0) plantCalls ≡ accepted ∷ refused 20 ∷ refused 50 ∷ refused 17 ∷ accepted ∷ accepted ∷ closed figures ∷ [])
-    × (account twoPoints (replicate 30 0) plantCalls
-    ≡ Said.accepted ∷ Said.refused ∷ Said.refused ∷ Said.refused ∷ Said.accepted ∷ Said.accepted ∷ Said.closed exact ∷ [])
+    (program twoPoints noDays plantCalls
+    ≡ accepted ∷ refused 20 ∷ refused 50 ∷ refused 17 ∷ accepted ∷ refused 15 ∷ accepted ∷ closed figures ∷ [])
+    × (account twoPoints noDays plantCalls
+    ≡ Said.accepted ∷ Said.refused ∷ Said.refused ∷ Said.refused ∷ Said.accepted ∷ Said.refused ∷ Said.accepted ∷ Said.closed exact ∷ [])
     × (534 * kW ≡ exact + 906_003 * 62_995_968_000_000)
 
 -- THE WORKED SEQUENCES

@@ -1,11 +1,15 @@
--- By the kind of point.
+-- An arm for each kind of point: its bytes are there, and its row is told.
 use mathlib.Core.Path.{_≡_}
 use native.Mathlib.Omega.{arith}
 use borrow.Author.Needs.{needs}
-use Rattle.points.specs.Points.{consumer, generator, mixedFiring, kindOf}
+use lib.ListN.{length}
+use Rattle.points.specs.Points.{Kind, consumer, generator, mixedFiring, kindOf, sizeOf}
 use Rattle.points.proofs.PointKinds.{is-consumer, is-generator, is-mixed-firing, is-unknown}
 use Rattle.points.proofs.unfit_refusal.Statement.{statement}
 use Rattle.points.proofs.unfit_refusal.Tie as tie
+
+sized : (s : tie.Start) {kind : Kind} → kindOf (s .args .tag) ≡ kind → length (s .args .value .now) ≡ sizeOf kind
+sized s e = rw e at (s .pre)
 
 consumer-here : (c : tie.At-match-keys1) → kindOf (c .before .before .args .tag) ≡ consumer
 consumer-here c = is-consumer (c .before .before .args .tag) (omega arith)
@@ -13,41 +17,20 @@ consumer-here c = is-consumer (c .before .before .args .tag) (omega arith)
 generator-here : (c : tie.At-match-keys2) → kindOf (c .before .before .args .tag) ≡ generator
 generator-here c = is-generator (c .before .before .args .tag) (omega arith)
 
-mixed-firing-here : (c : tie.At-match-keys3) → kindOf (c .before .before .args .tag) ≡ mixedFiring
-mixed-firing-here c = is-mixed-firing (c .before .before .args .tag) (omega arith)
-
-class-read : tie.Need-shared-slice-read-class-refusal
-class-read c = let size = rw (consumer-here (c .before)) at (c .before .before .before .pre) in omega arith
-
-baseline-read : tie.Need-word32-at-requires
-baseline-read c κs = let size = rw (generator-here c) at (c .before .before .pre) in omega arith
-
-share-read : tie.Need-word16-at-requires
-share-read c κs = let size = rw (mixed-firing-here c) at (c .before .before .pre) in omega arith
-
-returns : tie.Need-returns
-returns c = rw (consumer-here (c .before .before)) (c .class-refusal .ensures)
-
-returns-2 : tie.Need-returns-2
-returns-2 c = rw (generator-here (c .before .before), ← c .before .word32-at .ensures) (c .baseline-refusal .ensures)
-
-returns-3 : tie.Need-returns-3
-returns-3 c = rw (mixed-firing-here (c .before .before), ← c .before .word16-at .ensures) (c .share-refusal .ensures)
-
-returns-4 : tie.Need-returns-4
-returns-4 c = rw (is-unknown (c .before .before .args .tag) (search needs))
+plant-here : (c : tie.At-match-keys3) → kindOf (c .before .before .args .tag) ≡ mixedFiring
+plant-here c = is-mixed-firing (c .before .before .args .tag) (omega arith)
 
 pub unfit-refusal-spec : {M : Type 1} → statement M
 unfit-refusal-spec =
     tie.close
     (tie.spec
-    class-read
+    (λ c. omega (arith, sized (c .before .before .before) (consumer-here (c .before))))
     (λ c κs. search needs)
-    baseline-read
+    (λ c κs. omega (arith, sized (c .before .before) (generator-here c)))
     (λ c κs. search needs)
-    share-read
+    (λ c κs. omega (arith, sized (c .before .before) (plant-here c)))
     (λ c κs. search needs)
-    returns
-    returns-2
-    returns-3
-    returns-4)
+    (λ c. rw (consumer-here (c .before .before)) (c .class-refusal .ensures))
+    (λ c. rw (generator-here (c .before .before), ← c .before .word32-at .ensures) (c .baseline-refusal .ensures))
+    (λ c. rw (plant-here (c .before .before), ← c .before .word16-at .ensures) (c .share-refusal .ensures))
+    (λ c. rw (is-unknown (c .before .before .args .tag) (search needs))))

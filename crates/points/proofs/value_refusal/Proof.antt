@@ -1,4 +1,4 @@
--- The class or baseline, then the readings.
+-- The class, the baseline or the share, then the readings.
 use mathlib.Core.Path.{_≡_, sym, _∙_}
 use borrow.Author.Needs.{needs}
 use Rattle.numbers.specs.Refusals.{firstOf}
@@ -12,7 +12,8 @@ readings-next : (c : tie.Else1) → let a = c .before .before .before .args in
     firstOf (valueRows (a .tag) (a .value .now)) ≡ firstOf (largeRow (a .tag) (a .value .now))
 readings-next c =
     let a = c .before .before .before .args in
-    passes (unfitRow (a .tag) (a .value .now)) (largeRow (a .tag) (a .value .now)) (c .before .unfit-refusal .ensures) (values-numbered (a .tag) (a .value .now)) (c .if1 .left)
+    let numbered = values-numbered (a .tag) (a .value .now) in
+    passes (unfitRow (a .tag) (a .value .now)) (largeRow (a .tag) (a .value .now)) (c .before .unfit-refusal .ensures) numbered (c .if1 .left)
 
 returns : tie.Need-returns
 returns c =

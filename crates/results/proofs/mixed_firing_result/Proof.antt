@@ -1,7 +1,6 @@
 -- Not even all of both readings leaves the machine's range.
 use mathlib.Core.Path.{ap, _∙_}
 use Prim.Native.Nat.{_+_, _*_, _-_, _≤_}
-use native.Mathlib.Nat.{mul-le-mul-left}
 use native.Mathlib.Omega.{arith}
 use lib.IntN.{ℤ}
 use mir.Facts.{toZ-pos}
@@ -9,11 +8,12 @@ use mir.Syntax.{w64}
 use borrow.Author.Needs.{needs}
 use Rattle.integers.specs.Integers.{floorDiv}
 use Rattle.integers.proofs.Machine.{told}
+use Rattle.results.proofs.Bounds.{share-most}
 use Rattle.results.proofs.mixed_firing_result.Statement.{statement}
 use Rattle.results.proofs.mixed_firing_result.Tie as tie
 
 counted-most : (s : tie.Start) → let together = s .args .outside + s .args .inside in together * (1_000 - s .args .share) ≤ together * 1_000
-counted-most s = mul-le-mul-left (s .args .outside + s .args .inside) (omega arith)
+counted-most s = share-most (s .args .outside + s .args .inside) (s .args .share) (s .pre) .1
 
 returns : tie.Need-returns
 returns c =
