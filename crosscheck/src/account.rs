@@ -86,8 +86,8 @@ impl Account {
         self.points
     }
 
-    /// Adding: gives the point where none of 10 to 18 fits; refused, nothing
-    /// changes.
+    /// Adding: gives the point where none of 10 to 18 and 50 fits; refused,
+    /// nothing changes.
     pub fn adding<'a>(&mut self, tag: u8, value: &'a [u8], places: usize) -> Option<Taken<'a>> {
         let terms = self.terms.as_ref()?;
         let held = Held {

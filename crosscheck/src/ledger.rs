@@ -76,7 +76,7 @@ impl State {
     }
 }
 
-/// What rules 10 to 18 look at beside the call's own input.
+/// What rules 10 to 18 and 50 look at beside the call's own input.
 pub struct Held<'a> {
     /// Head and calendar.
     pub terms: &'a Terms,
@@ -159,7 +159,8 @@ pub fn add(state: &State, tag: u8, value: &[u8], places: &mut [i64]) -> (Refusal
     }
 }
 
-/// The results and the state of an accepted adding: rule 9, then 10 to 18.
+/// The results and the state of an accepted adding: rule 9, then those of
+/// [`take_point`].
 fn accepted_adding(
     state: &State,
     tag: u8,

@@ -228,7 +228,8 @@ fn faults_of_a_plant(value: &[u8]) -> [bool; 2] {
 
 #[test]
 fn plants_of_every_share_and_reading() {
-    let (mut told, mut shares, mut readings) = (BTreeSet::new(), BTreeSet::new(), BTreeSet::new());
+    let (mut told, mut readings) = (BTreeSet::new(), BTreeSet::new());
+    let (mut shares, mut above) = (BTreeSet::new(), BTreeSet::new());
     for call in stored_calls() {
         let Call::Adding { tag: 5, value, .. } = &call else {
             continue;
@@ -239,13 +240,16 @@ fn plants_of_every_share_and_reading() {
         let refusal = call.answer().0;
         let faults = faults_of_a_plant(value);
         told.insert((refusal, faults));
-        if refusal == 0 {
-            shares.insert(u16::from_be_bytes([value[22], value[23]]));
-        }
+        let share = u16::from_be_bytes([value[22], value[23]]);
+        match refusal {
+            0 => shares.insert(share),
+            50 => above.insert(share),
+            _ => false,
+        };
         for (place, reading) in value[24..].chunks(4).enumerate() {
             let reading = u32::from_be_bytes(reading.try_into().unwrap());
-            let due = if faults[0] { 50 } else { 17 };
-            if reading <= 1_000_000_000 || refusal == due {
+            let large = reading > 1_000_000_000;
+            if (refusal == 0 && !large) || (refusal == 17 && large) {
                 readings.insert((place, reading));
             }
         }
@@ -260,6 +264,9 @@ fn plants_of_every_share_and_reading() {
     assert!(!told.iter().any(|(refusal, _)| [16, 18].contains(refusal)));
     for share in [0, 1, 333, 500, 999, 1_000] {
         assert!(shares.contains(&share), "{share}");
+    }
+    for share in [1_001, 1_024, 65_535] {
+        assert!(above.contains(&share), "{share}");
     }
     for place in 0..12 {
         for reading in [0, 1, 1_000_000_000, 1_000_000_001] {

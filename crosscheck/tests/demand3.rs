@@ -136,14 +136,15 @@ fn a_plant_by_hand() {
 }
 
 #[test]
-fn parts_of_a_kw_are_the_same_with_and_without_plants() {
-    for point in a_point_of_each_kind(1) {
+fn every_list_counts_in_the_same_parts() {
+    let kw: i128 = 72_000_000 * 1_000_000_000_000;
+    // 0; 6 × 1 Wh; 6 × 2 × 0.667 Wh.
+    let sold = [0, 6 * kw / 3_000, 12 * 667 * kw / 3_000_000];
+    for (point, sold) in a_point_of_each_kind(1).into_iter().zip(sold) {
         let mut list = list_of_count(1);
         list.head.losses = [0; 3];
         list.push(point);
-        let account = account_of(&list);
-        let parts = parts_of_a_kw(account.terms().unwrap());
-        assert_eq!(parts, 72_000_000 * 1_000_000_000_000);
+        assert_eq!(account_of(&list).closing(), Some(1_000 * kw - sold));
     }
 }
 

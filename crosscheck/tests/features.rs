@@ -184,17 +184,22 @@ fn look_at_point(seen: &mut Seen, state: &State, tag: u8, value: &[u8]) -> State
     let number = point.number();
     seen.note("number of zeros", number == [b'0'; 22]);
     seen.note("number of nines", number == NOT_YET_ISSUED);
-    let mut faults = vec![
-        (14, point.check_number().is_err()),
-        (15, state.points > 0 && number <= state.last),
-        (at_16, point.check_class_baseline_or_share().is_err()),
-        (17, point.check_readings().is_err()),
-    ];
+    let mut faults = faults_of_value(state, &point, at_16);
     if at_16 == 16 {
         faults.push((18, few_days)); // a plant has no days
     }
     seen.note_faults(&faults);
     after
+}
+
+/// The faults 14 to 17 of a point, with the number at the place of 16.
+fn faults_of_value(state: &State, point: &Point, at_16: u32) -> Vec<(u32, bool)> {
+    vec![
+        (14, point.check_number().is_err()),
+        (15, state.points > 0 && point.number() <= state.last),
+        (at_16, point.check_class_baseline_or_share().is_err()),
+        (17, point.check_readings().is_err()),
+    ]
 }
 
 /// The share and the twelve readings of a plant, and its divisions.

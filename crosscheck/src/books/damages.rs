@@ -24,7 +24,7 @@ pub const DAMAGES: [(&str, Damage); 11] = [
 ];
 
 /// Bytes of a point that are cut often: tag, length, number and what follows it,
-/// a class or a baseline.
+/// a class, a baseline or a share.
 pub const FIRST_OF_POINT: usize = FRONT_LENGTH + NUMBER_LENGTH + 4;
 
 /// Where the fields of a book begin, as far as it can be cut into fields.
