@@ -65,7 +65,8 @@ beforeValue h points last tag value places =
 abbrev pub givenTests : Head → ℕ → List ℕ → ℕ → List ℕ → ℕ → List (Bool × ℕ)
 givenTests h points last tag value places = beforeValue h points last tag value places ++ valueRows tag value
 
--- 10 to 18, with 50 in the place of 16: the refusals other than 9, for the head and calendar, the points taken and the last number, and what is given
+-- 10 to 18, with 50 in the place of 16: the refusals other than 9, for the head and calendar, the points taken and the last number, and
+-- what is given
 abbrev pub pointTests : Head → List ℕ → ℕ → List ℕ → ℕ → List ℕ → ℕ → List (Bool × ℕ)
 pointTests h marks points last tag value places = givenTests h points last tag value places ++ daysRow h marks tag value
 

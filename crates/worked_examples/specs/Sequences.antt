@@ -131,7 +131,8 @@ PlantSlots =
 abbrev pub WithPlants : Type 0
 WithPlants =
     let exact = 533 * kW + 93_997 * 62_995_968_000_000 in
-    let figures : Figures = record { total = pos 1_400_716; settled = pos 466; shortfall = 534; expected = 466; kept = 466; surplus = 0; points = 2; bid = false } in
+    let figures : Figures =
+        record { total = pos 1_400_716; settled = pos 466; shortfall = 534; expected = 466; kept = 466; surplus = 0; points = 2; bid = false } in
     (program twoPoints noDays plantCalls
     ≡ accepted ∷ refused 20 ∷ refused 50 ∷ refused 17 ∷ accepted ∷ refused 15 ∷ accepted ∷ closed figures ∷ [])
     × (account twoPoints noDays plantCalls
