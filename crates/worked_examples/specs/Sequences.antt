@@ -125,16 +125,16 @@ PlantSlots =
     ≡ map pos (66_701 ∷ 133_402 ∷ 200_102 ∷ 266_803 ∷ 333_504 ∷ 400_204 ∷ [])
 
 -- The total is 1,400,716, which is 466 × 3,000 and a rest; the shortfall is 1,000 − 466 = 534.
---
+abbrev pub plantFigures : Figures
+plantFigures = record { total = pos 1_400_716; settled = pos 466; shortfall = 534; expected = 466; kept = 466; surplus = 0; points = 2; bid = false }
+
 -- Unrounded, the total is 2,100,027 × 0.667 = 1,400,718.009, and the shortfall 1,000 − 1,400,718.009 ÷ 3,000 = 533.093997 kW. A millionth of
 -- a kW is 62,995,968,000,000 parts. So the printed shortfall is the greater by 906,003 of these.
 abbrev pub WithPlants : Type 0
 WithPlants =
     let exact = 533 * kW + 93_997 * 62_995_968_000_000 in
-    let figures : Figures =
-        record { total = pos 1_400_716; settled = pos 466; shortfall = 534; expected = 466; kept = 466; surplus = 0; points = 2; bid = false } in
     (program twoPoints noDays plantCalls
-    ≡ accepted ∷ refused 20 ∷ refused 50 ∷ refused 17 ∷ accepted ∷ refused 15 ∷ accepted ∷ closed figures ∷ [])
+    ≡ accepted ∷ refused 20 ∷ refused 50 ∷ refused 17 ∷ accepted ∷ refused 15 ∷ accepted ∷ closed plantFigures ∷ [])
     × (account twoPoints noDays plantCalls
     ≡ Said.accepted ∷ Said.refused ∷ Said.refused ∷ Said.refused ∷ Said.accepted ∷ Said.refused ∷ Said.accepted ∷ Said.closed exact ∷ [])
     × (534 * kW ≡ exact + 906_003 * 62_995_968_000_000)
