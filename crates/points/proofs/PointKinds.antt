@@ -15,14 +15,9 @@ use Rattle.points.specs.Points.{consumerTag, generatorTag, mixedFiringTa
 use Rattle.points.specs.Points.{isUnknown, sizeOf, readingsAt, readingsIn, isUnfit, hasLarge, unfitNumber, formRows, valueRows}
 
 module _ (tag : ℕ) where
-  pub is-consumer : tag ≡ consumerTag → kindOf tag ≡ consumer
-  is-consumer e = ap kindOf e
-
-  pub is-generator : tag ≡ generatorTag → kindOf tag ≡ generator
-  is-generator e = ap kindOf e
-
-  pub is-mixed-firing : tag ≡ mixedFiringTag → kindOf tag ≡ mixedFiring
-  is-mixed-firing e = ap kindOf e
+  -- the kind of a tag that is some number: at the number of a kind it computes
+  pub of-tag : (number : ℕ) → tag ≡ number → kindOf tag ≡ kindOf number
+  of-tag number e = ap kindOf e
 
   -- a tag of no kind of point
   abbrev pub Other : Type 0

@@ -139,7 +139,8 @@ formRows tag size = tagRow tag ++ lengthRow tag size
 abbrev pub numberRow : List ℕ → List (Bool × ℕ)
 numberRow number = (not (isNumber number), 14) ∷ []
 
--- 16: 'class not 1 to 3, or baseline above 1,000,000'; CR 1: '50, share above 1,000, at the place of 16'. Of no kind it is never told.
+-- 16: 'class not 1 to 3, or baseline above 1,000,000'; CR 1: '50, share above 1,000, at the place of 16'. That of a tag of no point
+-- is never told.
 abbrev pub unfitNumber : Kind → ℕ
 unfitNumber consumer = 16
 unfitNumber generator = 16

@@ -3,8 +3,8 @@ use mathlib.Core.Path.{_≡_}
 use native.Mathlib.Omega.{arith}
 use borrow.Author.Needs.{needs}
 use lib.ListN.{length}
-use Rattle.points.specs.Points.{Kind, consumer, generator, mixedFiring, kindOf, sizeOf}
-use Rattle.points.proofs.PointKinds.{is-consumer, is-generator, is-mixed-firing, is-unknown}
+use Rattle.points.specs.Points.{consumerTag, generatorTag, mixedFiringTag, Kind, consumer, generator, mixedFiring, kindOf, sizeOf}
+use Rattle.points.proofs.PointKinds.{of-tag, is-unknown}
 use Rattle.points.proofs.unfit_refusal.Statement.{statement}
 use Rattle.points.proofs.unfit_refusal.Tie as tie
 
@@ -12,13 +12,13 @@ sized : (s : tie.Start) {kind : Kind} → kindOf (s .args .tag) ≡ kind → len
 sized s e = rw e at (s .pre)
 
 consumer-here : (c : tie.At-match-keys1) → kindOf (c .before .before .args .tag) ≡ consumer
-consumer-here c = is-consumer (c .before .before .args .tag) (omega arith)
+consumer-here c = of-tag (c .before .before .args .tag) consumerTag (omega arith)
 
 generator-here : (c : tie.At-match-keys2) → kindOf (c .before .before .args .tag) ≡ generator
-generator-here c = is-generator (c .before .before .args .tag) (omega arith)
+generator-here c = of-tag (c .before .before .args .tag) generatorTag (omega arith)
 
 plant-here : (c : tie.At-match-keys3) → kindOf (c .before .before .args .tag) ≡ mixedFiring
-plant-here c = is-mixed-firing (c .before .before .args .tag) (omega arith)
+plant-here c = of-tag (c .before .before .args .tag) mixedFiringTag (omega arith)
 
 pub unfit-refusal-spec : {M : Type 1} → statement M
 unfit-refusal-spec =
