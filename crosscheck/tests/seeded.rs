@@ -134,15 +134,21 @@ fn totals_lie_beside_multiples_of_3000() {
     assert!(counts.keys().all(|key| [0, 1, 2_999].contains(&key.1)));
 }
 
-#[test]
-fn contracts_lie_beside_the_settled_capacity() {
-    let counts = counted(lists::contract_near_settled, |list| {
+/// Contracts of a kind of list are one above the settled capacity, at it and one
+/// below it.
+fn contracts_lie_beside_the_settled(kind: Kind) {
+    let counts = counted(kind, |list| {
         let figures = figures_of(list)?;
         (list.head.contract > 0).then(|| figures.settled - i64::from(list.head.contract))
     });
     for beside in [-1, 0, 1] {
         assert!(counts[&Some(beside)] > 200, "{counts:?}");
     }
+}
+
+#[test]
+fn contracts_lie_beside_the_settled_capacity() {
+    contracts_lie_beside_the_settled(lists::contract_near_settled);
 }
 
 #[test]
@@ -197,14 +203,11 @@ fn plants_at_the_edges_are_refused_or_taken() {
 
 #[test]
 fn contracts_lie_beside_the_settled_capacity_of_plants() {
-    let counts = counted(lists::contract_near_plants, |list| {
-        let figures = figures_of(list)?;
-        assert_eq!(plants_of(list).len(), list.points.len());
-        (list.head.contract > 0).then(|| figures.settled - i64::from(list.head.contract))
+    contracts_lie_beside_the_settled(lists::contract_near_plants);
+    let plants_alone = counted(lists::contract_near_plants, |list| {
+        plants_of(list).len() == list.points.len()
     });
-    for beside in [-1, 0, 1] {
-        assert!(counts[&Some(beside)] > 200, "{counts:?}");
-    }
+    assert_eq!(plants_alone[&true], 1_000);
 }
 
 #[test]

@@ -18,6 +18,9 @@ use points::MIXED_FIRING_LENGTH;
 use points::MIXED_FIRING_READINGS_AT;
 use points::SHARE_AT;
 
+// Where the readings of a mixed-firing plant inside the tariff begin.
+const INSIDE_AT: usize = 48;
+
 // A head of the year 2024: losses 700, 400 and 200, contract 1,000 kW.
 pub fn head(month: u8, day: u8, slot: u8, count: u16) -> [u8; 17]
     ensures { λ r. ⌜ length r ≡ 17 ⌝ }
@@ -127,9 +130,13 @@ pub fn put_mixed_firing(value: &mut [u8], share: u16, outside: u32, inside: u32)
     put_byte(value, SHARE_AT, bytes[0]);
     put_byte(value, SHARE_AT + 1, bytes[1]);
     put_readings(
-        &mut value[MIXED_FIRING_READINGS_AT..48],
+        &mut value[MIXED_FIRING_READINGS_AT..INSIDE_AT],
         WINDOW_SLOTS,
         outside,
     );
-    put_readings(&mut value[48..MIXED_FIRING_LENGTH], WINDOW_SLOTS, inside);
+    put_readings(
+        &mut value[INSIDE_AT..MIXED_FIRING_LENGTH],
+        WINDOW_SLOTS,
+        inside,
+    );
 }

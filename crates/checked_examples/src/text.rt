@@ -31,16 +31,21 @@ pub fn results(list: &[i64]) {
     }
 }
 
-// A value that was worked out by the paper's formula ends the line.
-pub fn by_hand(value: &[u8]) {
-    put(b" (by hand ");
+// The value that is due, with where it comes from, ends the line.
+fn due(source: &[u8], value: &[u8]) {
+    put(b" (");
+    put(source);
+    put(b" ");
     put(value);
     put(b")\n");
 }
 
-// What the paper says ends the line.
+// What the paper says.
 pub fn paper(value: &[u8]) {
-    put(b" (paper ");
-    put(value);
-    put(b")\n");
+    due(b"paper", value);
+}
+
+// What was worked out by the paper's formula.
+pub fn by_hand(value: &[u8]) {
+    due(b"by hand", value);
 }

@@ -72,6 +72,13 @@ pub fn generators_at_allowance(random: &mut Random) -> List {
     list
 }
 
+/// The list with a generator that fills its total to a multiple of 3,000.
+fn filled(random: &mut Random, mut list: List) -> List {
+    let generator = filling_generator(random, &list);
+    list.push(PointFields::Generator(generator));
+    list
+}
+
 /// A consumer of whose divisions one alone leaves a remainder, in any slot and
 /// on either side of zero, and a total that is a multiple of 3,000.
 pub fn one_remainder(random: &mut Random) -> List {
@@ -82,9 +89,7 @@ pub fn one_remainder(random: &mut Random) -> List {
     let mut consumer = whole_consumer(random, &list);
     consumer.window(0, list.head.first_slot)[random.place(WINDOW_SLOTS)] += 1;
     list.push(PointFields::Consumer(consumer));
-    let generator = filling_generator(random, &list);
-    list.push(PointFields::Generator(generator));
-    list
+    filled(random, list)
 }
 
 /// Mixed-firing plants whose six divisions each leave 999 thousandths of a Wh,
@@ -119,9 +124,7 @@ pub fn one_remainder_of_a_plant(random: &mut Random) -> List {
     plant.share = random.one_of(&[1, 333, 500, WHOLE_SHARE - 1, any, any]);
     plant.readings[random.place(MIXED_FIRING_READINGS)] += 1;
     list.push(PointFields::MixedFiring(plant));
-    let generator = filling_generator(random, &list);
-    list.push(PointFields::Generator(generator));
-    list
+    filled(random, list)
 }
 
 /// Mixed-firing plants whose divisions are whole, while each of the two readings
@@ -134,7 +137,5 @@ pub fn plants_whole_together(random: &mut Random) -> List {
         let plant = whole_plant(random, &list);
         list.push(PointFields::MixedFiring(plant));
     }
-    let generator = filling_generator(random, &list);
-    list.push(PointFields::Generator(generator));
-    list
+    filled(random, list)
 }
