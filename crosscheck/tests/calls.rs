@@ -226,34 +226,58 @@ fn faults_of_a_plant(value: &[u8]) -> [bool; 2] {
     ]
 }
 
-#[test]
-fn plants_of_every_share_and_reading() {
-    let (mut told, mut readings) = (BTreeSet::new(), BTreeSet::new());
-    let (mut shares, mut above) = (BTreeSet::new(), BTreeSet::new());
-    for call in stored_calls() {
-        let Call::Adding { tag: 5, value, .. } = &call else {
-            continue;
-        };
-        if value.len() != 72 {
-            continue;
-        }
-        let refusal = call.answer().0;
-        let faults = faults_of_a_plant(value);
-        told.insert((refusal, faults));
+/// What the addings of plants with values of the right length have shown.
+#[derive(Default)]
+struct PlantsShown {
+    /// Each number told, with the faults of the value.
+    told: BTreeSet<(u32, [bool; 2])>,
+    accepted_shares: BTreeSet<u16>,
+    refused_shares: BTreeSet<u16>,
+    /// Place and reading: allowed ones of accepted plants, others where 17 is told.
+    readings: BTreeSet<(usize, u32)>,
+}
+
+impl PlantsShown {
+    fn look_at(&mut self, refusal: u32, value: &[u8]) {
+        self.told.insert((refusal, faults_of_a_plant(value)));
         let share = u16::from_be_bytes([value[22], value[23]]);
         match refusal {
-            0 => shares.insert(share),
-            50 => above.insert(share),
+            0 => self.accepted_shares.insert(share),
+            50 => self.refused_shares.insert(share),
             _ => false,
         };
         for (place, reading) in value[24..].chunks(4).enumerate() {
             let reading = u32::from_be_bytes(reading.try_into().unwrap());
             let large = reading > 1_000_000_000;
             if (refusal == 0 && !large) || (refusal == 17 && large) {
-                readings.insert((place, reading));
+                self.readings.insert((place, reading));
             }
         }
     }
+}
+
+/// What the plants among the stored calls have shown.
+fn plants_of_the_stored_calls() -> PlantsShown {
+    let mut shown = PlantsShown::default();
+    for call in stored_calls() {
+        match &call {
+            Call::Adding { tag: 5, value, .. } if value.len() == 72 => {
+                shown.look_at(call.answer().0, value);
+            }
+            _ => (),
+        }
+    }
+    shown
+}
+
+#[test]
+fn plants_of_every_share_and_reading() {
+    let PlantsShown {
+        told,
+        accepted_shares,
+        refused_shares,
+        readings,
+    } = plants_of_the_stored_calls();
     for faults in [[false, true], [true, false], [true, true]] {
         for earlier in 9..=15 {
             let alone = earlier == 11 || earlier == 12; // no plant in other forms
@@ -263,10 +287,10 @@ fn plants_of_every_share_and_reading() {
     }
     assert!(!told.iter().any(|(refusal, _)| [16, 18].contains(refusal)));
     for share in [0, 1, 333, 500, 999, 1_000] {
-        assert!(shares.contains(&share), "{share}");
+        assert!(accepted_shares.contains(&share), "{share}");
     }
     for share in [1_001, 1_024, 65_535] {
-        assert!(above.contains(&share), "{share}");
+        assert!(refused_shares.contains(&share), "{share}");
     }
     for place in 0..12 {
         for reading in [0, 1, 1_000_000_000, 1_000_000_001] {

@@ -2,8 +2,9 @@
 
 use settlement::books::{examples, seeded_book};
 use settlement::text::settle_book_text;
-use std::fs::File;
+use std::fs::{self, File};
 use std::io::Write;
+use std::path::Path;
 use std::process::{Command, Output, Stdio};
 
 fn make_book(arguments: &[&str]) -> Output {
@@ -26,11 +27,32 @@ fn settle_text(book: &[u8]) -> Output {
 
 #[test]
 fn books_by_name() {
-    assert_eq!(make_book(&["m"]).stdout, examples::example_m());
-    assert_eq!(make_book(&["consumers"]).stdout, examples::consumers());
-    assert_eq!(make_book(&["plants"]).stdout, examples::plants());
-    assert_eq!(make_book(&["refused"]).stdout, examples::refused());
+    for (name, book) in [
+        ("m", examples::example_m()),
+        ("consumers", examples::consumers()),
+        ("mixed_firing", examples::mixed_firing()),
+        ("refused", examples::refused()),
+    ] {
+        assert_eq!(make_book(&[name]).stdout, book, "{name}");
+    }
     assert_eq!(make_book(&["case", "21"]).stdout, seeded_book(21).book);
+}
+
+/// A file of the folder `examples/`.
+fn stored(file: &str) -> Vec<u8> {
+    let folder = Path::new(env!("CARGO_MANIFEST_DIR")).join("../examples");
+    fs::read(folder.join(file)).unwrap()
+}
+
+#[test]
+fn stored_books_and_texts_are_made_again() {
+    for name in ["m", "consumers", "mixed_firing", "refused"] {
+        let book = make_book(&[name]).stdout;
+        assert!(book == stored(&format!("{name}.book")), "{name}");
+        let text = String::from_utf8(settle_text(&book).stdout);
+        let due = String::from_utf8(stored(&format!("{name}.txt")));
+        assert_eq!(text, due, "{name}");
+    }
 }
 
 #[test]
@@ -47,7 +69,7 @@ fn text_on_standard_output() {
     for book in [
         examples::example_m(),
         examples::consumers(),
-        examples::plants(),
+        examples::mixed_firing(),
         examples::refused(),
         vec![],
     ] {
@@ -55,55 +77,6 @@ fn text_on_standard_output() {
         assert_eq!(output.stdout, settle_book_text(&book).as_bytes());
         assert!(output.status.success() && output.stderr.is_empty());
     }
-}
-
-#[test]
-fn text_of_the_consumers() {
-    let text = settle_book_text(&examples::consumers());
-    let due = "\
-date 2024-08-07 slot 26
-points 4
-slot 1 470951
-slot 2 450557
-slot 3 450557
-slot 4 450557
-slot 5 450557
-slot 6 450557
-total 2723736
-settled 907
-shortfall 93
-expected 907
-kept 907
-surplus 0
-bid no
-";
-    assert_eq!(text, due);
-}
-
-#[test]
-fn text_of_the_plants() {
-    // First: 500,001, 500,008 .. 500,036 × 667 ÷ 1,000 = 333,500.667, 333,505.336,
-    // 333,510.005, 333,514.674, 333,519.343, 333,524.012. Second: 200,005 × 0.6 =
-    // 120,003.
-    let text = settle_book_text(&examples::plants());
-    let due = "\
-date 2024-08-07 slot 26
-points 2
-slot 1 453503
-slot 2 453508
-slot 3 453513
-slot 4 453517
-slot 5 453522
-slot 6 453527
-total 2721090
-settled 907
-shortfall 93
-expected 907
-kept 907
-surplus 0
-bid no
-";
-    assert_eq!(text, due);
 }
 
 #[cfg(unix)]

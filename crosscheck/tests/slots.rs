@@ -218,6 +218,19 @@ fn each_slot_of_a_plant_has_its_own_two_readings() {
 }
 
 #[test]
+fn each_slot_of_a_plant_has_its_own_remainder() {
+    let mut fields = MixedFiringFields::flat(1, 333, 300_000, 200_001);
+    for (slot, outside) in (0..).zip(&mut fields.readings[..6]) {
+        *outside += 7 * slot;
+    }
+    let point = PointFields::MixedFiring(fields);
+    let (_, _, places) = add_point(&opened(&list_of_count(1)), &point);
+    // 333,500.667, 333,505.336, 333,510.005, 333,514.674, 333,519.343, 333,524.012
+    let due = [333_500, 333_505, 333_510, 333_514, 333_519, 333_524];
+    assert_eq!(places, due);
+}
+
+#[test]
 fn a_plant_has_no_loss_and_no_days() {
     let mut list = list_of_count(1);
     list.head.losses = [5_000; 3];

@@ -94,7 +94,7 @@ fn plant(number: u128, share: u16, last: u32) -> Vec<u8> {
     .value()
 }
 
-/// On thirty marks of 1, since a plant asks for no days. The exact shortfall is
+/// On thirty marks of 1, since a plant needs no days. The exact shortfall is
 /// 533.093997 kW.
 #[test]
 fn with_plants() {

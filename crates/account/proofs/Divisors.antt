@@ -16,7 +16,7 @@ use Rattle.integers.specs.Integers.{divides}
 use Rattle.numbers.proofs.Filling.{any-append}
 use Rattle.integers.proofs.Floors.{divides-one}
 use Rattle.points.specs.Points.{Point, Kind, consumer, generator, mixedFiring, unknown, kindOf, classOf, isUnfit, baselineOf, readingsOf}
-use Rattle.results.specs.SlotResults.{lossOf, generatorQuotient, quotients}
+use Rattle.results.specs.SlotResults.{generatorQuotient, quotients}
 use Rattle.account.specs.Account.{product, partsOfWh}
 use Rattle.account.specs.Demand3.{divisionsBy, divisions, allQuotients}
 use Rattle.heads.specs.declared.Head.{Head}
@@ -32,21 +32,18 @@ goes d m parts e = rw (← e, mul-mod-right) tt
 share-goes : (h : Head) → T (divides 1_000 (pos (partsOfWh h)))
 share-goes h = goes 1_000 (24 * product h) (partsOfWh h) (omega arith)
 
-three : (a b c : ℕ) → let parts = pos (24_000 * (a * b * c)) in T (divides (24 * a) parts) × T (divides (24 * b) parts) × T (divides (24 * c) parts)
-three a b c = (
-  goes (24 * a) (1_000 * (b * c)) _ (omega arith),
-  goes (24 * b) (1_000 * (a * c)) _ (omega arith),
-  goes (24 * c) (1_000 * (a * b)) _ (omega arith),
-)
+-- what the loss of a class leaves of 10,000
+abbrev left : Head → ℕ → ℕ
+left h i = 10_000 - getD (h .losses) i 0
 
-class-goes : (h : Head) (class : ℕ) → 1 ≤ class → class ≤ 3 → T (divides (24 * (10_000 - getD (h .losses) (class - 1) 0)) (pos (partsOfWh h)))
+class-goes : (h : Head) (class : ℕ) → 1 ≤ class → class ≤ 3 → T (divides (24 * left h (class - 1)) (pos (partsOfWh h)))
 class-goes h zero l m = absurd (omega arith)
-class-goes h (suc zero) l m = three (10_000 - getD (h .losses) 0 0) (10_000 - getD (h .losses) 1 0) (10_000 - getD (h .losses) 2 0) .0
-class-goes h (suc (suc zero)) l m = three (10_000 - getD (h .losses) 0 0) (10_000 - getD (h .losses) 1 0) (10_000 - getD (h .losses) 2 0) .1
-class-goes h (suc (suc (suc zero))) l m = three (10_000 - getD (h .losses) 0 0) (10_000 - getD (h .losses) 1 0) (10_000 - getD (h .losses) 2 0) .2
+class-goes h (suc zero) l m = goes (24 * left h 0) (1_000 * (left h 1 * left h 2)) (partsOfWh h) (omega arith)
+class-goes h (suc (suc zero)) l m = goes (24 * left h 1) (1_000 * (left h 0 * left h 2)) (partsOfWh h) (omega arith)
+class-goes h (suc (suc (suc zero))) l m = goes (24 * left h 2) (1_000 * (left h 0 * left h 1)) (partsOfWh h) (omega arith)
 class-goes h (suc (suc (suc (suc class)))) l m = absurd (omega arith)
 
-consumer-goes : (h : Head) (value : List ℕ) → isUnfit consumer value ≡ false → T (divides (24 * (10_000 - lossOf h value)) (pos (partsOfWh h)))
+consumer-goes : (h : Head) (value : List ℕ) → isUnfit consumer value ≡ false → T (divides (24 * left h (classOf value - 1)) (pos (partsOfWh h)))
 consumer-goes h value fit =
     let t = both (leb 1 (classOf value)) (leb (classOf value) 3) fit in
     class-goes h (classOf value) (leb-yes (t .0)) (leb-yes (t .1))
@@ -60,11 +57,10 @@ goes-by h marks generator value fit = every-run (goesInto (partsOfWh h)) _ 0 6 �
 goes-by h marks mixedFiring value fit = every-run (goesInto (partsOfWh h)) _ 0 6 λ j hj. share-goes h
 goes-by h marks unknown value fit = tt
 
-parts-pos : (a b c : ℕ) → 0 < a → 0 < b → 0 < c → 0 < 24_000 * (a * b * c)
-parts-pos a b c p q r = omega (arith, mul-pos (mul-pos p q) r)
-
 pub wh-pos : (h : Head) → Opens h → 0 < partsOfWh h
-wh-pos h o = parts-pos _ _ _ (omega (arith, o .losses 0)) (omega (arith, o .losses 1)) (omega (arith, o .losses 2))
+wh-pos h o =
+    let some-left : (i : ℕ) → 0 < left h i = λ i. omega (arith, o .losses i) in
+    omega (arith, mul-pos (mul-pos (some-left 0) (some-left 1)) (some-left 2))
 
 -- ---- a division that is not listed leaves no remainder
 

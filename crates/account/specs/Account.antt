@@ -32,13 +32,12 @@ product h = (10_000 - getD (h .losses) 0 0) * (10_000 - getD (h .losses) 1 0) * 
 abbrev pub partsOfkW : Head → ℕ
 partsOfkW h = 72_000_000 * product h
 
--- a watt is a 1,000th of a kW
+-- a watt is a 1,000th of a kW, and a Wh of the total a 3,000th; neither division leaves a remainder
 abbrev pub partsOfWatt : Head → ℕ
-partsOfWatt h = 72_000 * product h
+partsOfWatt h = partsOfkW h / 1_000
 
--- a Wh of the total is a 3,000th of a kW
 abbrev pub partsOfWh : Head → ℕ
-partsOfWh h = 24_000 * product h
+partsOfWh h = partsOfkW h / 3_000
 
 -- A slot result in parts. The divisor goes into the parts of a Wh, so that nothing is rounded: demand 3 says so of each.
 abbrev pub exactly : Head → Quotient → ℤ

@@ -1,18 +1,18 @@
 -- After an accepted opening 9 never comes, and after a refused one nothing else does. Assumes nothing.
 use mathlib.Core.Path.{_≡_, refl, sym, _∙_}
 use mathlib.Core.Bool.{Bool, true, false, cond, not}
-use mathlib.Core.List.{List, [], _∷_, _++_}
+use mathlib.Core.List.{List, [], _∷_}
 use Prim.Native.Nat.{ℕ, _<_}
 use native.Mathlib.Omega.{arith}
 use lib.Dec.{T, eqb}
 use mir.Facts.{no-eqb}
 use Rattle.numbers.specs.Lists.{any}
 use Rattle.numbers.specs.Refusals.{firstOf}
-use Rattle.numbers.proofs.Tests.{noneOf, none-cons}
+use Rattle.numbers.proofs.Tests.{noneOf, none-cons, none-append}
 use Rattle.calendar.specs.Dates.{isDate}
 use Rattle.heads.specs.Heads.{headOf, contentRefusal}
-use Rattle.points.specs.Points.{kindOf, isUnfit, unfitNumber, largeRow}
-use Rattle.points.proofs.PointKinds.{unfit-above}
+use Rattle.points.specs.Points.{valueRows}
+use Rattle.points.proofs.PointKinds.{values-above}
 use Rattle.ledger.specs.States.{opened, noState, isUnsound}
 use Rattle.ledger.specs.Operations.{daysRow, pointTests, pointRefusal, addingRefusal, addOf, unreachedRow, closingRefusal, closeOf}
 use Rattle.ledger.specs.declared.State.{State}
@@ -48,11 +48,10 @@ module _ (state : State) (s : Sound state) where
   add-not-nine : (tag : ℕ) (value : List ℕ) (places : ℕ) → T (not (eqb (addOf state tag value places .refusal) 9))
   unfolding pointRefusal any
   add-not-nine tag value places =
-      let behind = largeRow tag value ++ daysRow (state .head) (state .marks) tag value in
-      let unfit = no-eqb (λ (e : unfitNumber (kindOf tag) ≡ 9). omega (arith, unfit-above (kindOf tag))) in
       rw (add-refusal, adding-sound state s tag value places)
       (never-told 9 (pointTests (state .head) (state .marks) (state .points) (state .last) tag value places) (omega arith)
-      (none-cons (λ row. eqb (row .1) 9) (isUnfit (kindOf tag) value, unfitNumber (kindOf tag)) behind .1 (unfit, tt)))
+      (none-append (λ row. eqb (row .1) 9) (valueRows tag value) (daysRow (state .head) (state .marks) tag value) .1
+      (values-above tag value 9 (omega arith), tt)))
 
   close-not-nine : T (not (eqb (closeOf state .refusal) 9))
   unfolding any

@@ -7,6 +7,7 @@ ghost use Rattle.points.specs.Points.{consumerLength, generatorLength, mixedFir
 use ledger::State;
 use numbers::DAYS_BACK;
 use numbers::NUMBER_LENGTH;
+use numbers::SLOTS_OF_DAY;
 use numbers::WINDOW_SLOTS;
 use points::BASELINE_AT;
 use points::CLASS_AT;
@@ -104,7 +105,7 @@ pub fn put_consumer(value: &mut [u8], earlier: u32, used: u32)
     put_byte(value, CLASS_AT, 2);
     put_readings(
         &mut value[CONSUMER_READINGS_AT..CONSUMER_LENGTH],
-        1488,
+        (DAYS_BACK + 1) * SLOTS_OF_DAY,
         1200,
     );
     put_readings(&mut value[87..111], WINDOW_SLOTS, earlier);

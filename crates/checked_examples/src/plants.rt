@@ -5,7 +5,7 @@ use crate::text;
 use points::MIXED_FIRING;
 use points::MIXED_FIRING_LENGTH;
 
-// On thirty marks of 1: a plant asks for no days.
+// On thirty marks of 1: a plant needs no days.
 fn put_answer(share: u16, outside: u32, inside: u32) {
     let state = handed::opened(1);
     let mut value = [0u8; MIXED_FIRING_LENGTH];

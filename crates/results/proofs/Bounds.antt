@@ -79,27 +79,29 @@ none-of-six : (q : ℕ → Quotient) → ((j : ℕ) → j < 6 → natAbs (rounde
     → T (noneOf (λ q. isBeyond mostResult (rounded q)) (run q 0 6))
 none-of-six q h = none-run (λ q. isBeyond mostResult (rounded q)) q 0 6 λ j l. no-ltb (h j l)
 
-module _ (h : Head) (marks : List ℕ) (o : Opens h) (value : List ℕ) where
+module _ (h : Head) (marks value : List ℕ) where
   -- what is due of a kind of point
-  abbrev Small : Kind → Type 0
-  Small kind = isUnfit kind value ≡ false → hasLarge kind value ≡ false → T (noneOf (λ q. isBeyond mostResult (rounded q)) (quotients h marks kind value))
+  abbrev pub SmallResults : Kind → Type 0
+  SmallResults kind =
+      isUnfit kind value ≡ false → hasLarge kind value ≡ false
+      → T (noneOf (λ q. isBeyond mostResult (rounded q)) (quotients h marks kind value))
 
-  consumers-small : Small consumer
+  consumers-small : Opens h → SmallResults consumer
   unfolding quotients
-  consumers-small fit small = none-of-six _ λ j l.
+  consumers-small o fit small = none-of-six _ λ j l.
       let readings = readingsOf consumer value in
       let tested = all-tested consumer value small in
       consumer-small (lossOf h value) _ _ (o .losses _)
       (baseline-bound (testDay h) marks readings (h .slot) tested (omega (arith, o .last-slot)) (0 + j))
       (reading-bound readings tested 0 (h .slot + (0 + j)) (omega arith) (omega arith))
 
-  generators-small : Small generator
+  generators-small : SmallResults generator
   unfolding quotients
   generators-small fit small = none-of-six _ λ j l.
       generator-small (baselineOf value) _ (ltb-false _ _ fit)
       (none-large (readingsOf generator value) 6 (0 + j) (all-tested generator value small) (omega arith))
 
-  plants-small : Small mixedFiring
+  plants-small : SmallResults mixedFiring
   unfolding quotients
   plants-small fit small = none-of-six _ λ j l.
       let reading = none-large (readingsOf mixedFiring value) 12 in
@@ -109,12 +111,11 @@ module _ (h : Head) (marks : List ℕ) (o : Opens h) (value : List ℕ) where
 -- ---- by kind of point: a line for each
 
 module _ (h : Head) (marks : List ℕ) where
-  pub small-by : Opens h → (kind : Kind) (value : List ℕ) → isUnfit kind value ≡ false → hasLarge kind value ≡ false
-      → T (noneOf (λ q. isBeyond mostResult (rounded q)) (quotients h marks kind value))
+  pub small-by : Opens h → (kind : Kind) (value : List ℕ) → SmallResults h marks value kind
   unfolding quotients any
-  small-by o consumer value = consumers-small h marks o value
-  small-by o generator value = generators-small h marks o value
-  small-by o mixedFiring value = plants-small h marks o value
+  small-by o consumer value = consumers-small h marks value o
+  small-by o generator value = generators-small h marks value
+  small-by o mixedFiring value = plants-small h marks value
   small-by o unknown value = λ fit small. tt
 
   pub six-by : (kind : Kind) (value : List ℕ) → isUnknown kind ≡ false → length (quotients h marks kind value) ≡ 6

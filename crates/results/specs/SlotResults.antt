@@ -1,5 +1,4 @@
--- Slot results (document 01, and CR 1): of a point's value six quotients, and each of them rounded. A further kind of point is a line in each
--- definition by kind.
+-- Slot results (document 01, and CR 1): of a point's value six quotients, and each of them rounded.
 use mathlib.Core.Bool.{Bool, false}
 use mathlib.Core.List.{List, [], map}
 use Prim.Native.Nat.{ℕ, _+_, _*_, _-_}

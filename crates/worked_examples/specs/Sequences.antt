@@ -18,9 +18,13 @@ use Rattle.figures.specs.declared.Figures.{Figures}
 abbrev pub twoPoints : List ℕ
 twoPoints = take 15 head ++ bytesOf 2 2
 
--- a point number of 21 digits 0 and one more, a baseline in kW and six readings
+-- a point number of 21 digits 0 and one more
+abbrev pub numberEnding : ℕ → List ℕ
+numberEnding digit = replicate 21 48 ++ digit ∷ []
+
+-- a generator: its number, a baseline in kW and six readings
 abbrev pub generatorOf : ℕ → ℕ → List ℕ → List ℕ
-generatorOf digit kW readings = replicate 21 48 ++ digit ∷ bytesOf 4 kW ++ gather (bytesOf 4) readings
+generatorOf digit kW readings = numberEnding digit ++ bytesOf 4 kW ++ gather (bytesOf 4) readings
 
 -- A closing too early, a generator with too high a baseline, the generator, a closing too early, a high-voltage consumer of the examples
 -- with earlier readings of 1,200, a point too many, the closing.
@@ -69,8 +73,8 @@ PartsOfkW = (partsOfkW (headOf twoPoints) ≡ kW) × (1_000 * partsOfWatt (headO
 -- 605,988, which is 201 × 3,000 and a rest; the shortfall is 1,000 − 201 = 799.
 --
 -- Unrounded, the total is 600,000 + 6 × 998.9583.. = 605,993.75, and the shortfall 1,000 − 605,993.75 ÷ 3,000 = 798 + 1/480 kW. A kW has
--- 72,000,000 × 9,300 × 9,600 × 9,800 = 62,995,968,000,000,000,000 parts, and a 480th of it 131,241,600,000,000,000. So the printed shortfall
--- is the greater by 479/480 of a kW, which is less than a kW and four watts.
+-- 72,000,000 × 9,300 × 9,600 × 9,800 = 62,995,968,000,000,000,000 parts, and a 480th of it 131,241,600,000,000,000. So the printed
+-- shortfall is the greater by 479/480 of a kW, which is less than a kW and four watts.
 abbrev pub WithRemainder : Type 0
 WithRemainder =
     WorkedOut 100_000 241
@@ -86,9 +90,9 @@ WithoutRemainder =
     (record { total = pos 600_000; settled = pos 200; shortfall = 800; expected = 200; kept = 200; surplus = 0; points = 2; bid = false })
     (800 * kW)
 
--- MIXED-FIRING PLANTS (CR 1): the point number again, a share, six readings outside the tariff and six inside it.
+-- MIXED-FIRING PLANTS (CR 1): a number, a share, six readings outside the tariff and six inside it.
 abbrev pub mixedFiringOf : ℕ → ℕ → List ℕ → List ℕ → List ℕ
-mixedFiringOf digit share outside inside = replicate 21 48 ++ digit ∷ bytesOf 2 share ++ gather (bytesOf 4) (outside ++ inside)
+mixedFiringOf digit share outside inside = numberEnding digit ++ bytesOf 2 share ++ gather (bytesOf 4) (outside ++ inside)
 
 abbrev pub outsideTariff : List ℕ
 outsideTariff = 100_001 ∷ 200_001 ∷ 300_001 ∷ 400_001 ∷ 500_001 ∷ 600_001 ∷ []
@@ -100,7 +104,7 @@ insideTariff = 1 ∷ 2 ∷ 3 ∷ 4 ∷ 5 ∷ 6 ∷ []
 abbrev pub lastTooLarge : List ℕ
 lastTooLarge = 1 ∷ 2 ∷ 3 ∷ 4 ∷ 5 ∷ 1_000_000_001 ∷ []
 
--- thirty marks of 1: such a plant asks for no days
+-- thirty marks of 1: such a plant needs no days
 abbrev pub noDays : List ℕ
 noDays = replicate 30 1
 
@@ -126,18 +130,23 @@ PlantSlots =
 
 -- The total is 1,400,716, which is 466 × 3,000 and a rest; the shortfall is 1,000 − 466 = 534.
 abbrev pub plantFigures : Figures
-plantFigures = record { total = pos 1_400_716; settled = pos 466; shortfall = 534; expected = 466; kept = 466; surplus = 0; points = 2; bid = false }
+plantFigures =
+    record { total = pos 1_400_716; settled = pos 466; shortfall = 534; expected = 466; kept = 466; surplus = 0; points = 2; bid = false }
 
--- Unrounded, the total is 2,100,027 × 0.667 = 1,400,718.009, and the shortfall 1,000 − 1,400,718.009 ÷ 3,000 = 533.093997 kW. A millionth of
--- a kW is 62,995,968,000,000 parts. So the printed shortfall is the greater by 906,003 of these.
+-- a milliwatt, a millionth of a kW
+abbrev pub mW : ℕ
+mW = 62_995_968_000_000
+
+-- Unrounded, the total is 2,100,027 × 0.667 = 1,400,718.009, and the shortfall 1,000 − 1,400,718.009 ÷ 3,000 = 533.093997 kW. So the printed
+-- shortfall is the greater by 906,003 millionths of a kW.
 abbrev pub WithPlants : Type 0
 WithPlants =
-    let exact = 533 * kW + 93_997 * 62_995_968_000_000 in
+    let exact = 533 * kW + 93_997 * mW in
     (program twoPoints noDays plantCalls
     ≡ accepted ∷ refused 20 ∷ refused 50 ∷ refused 17 ∷ accepted ∷ refused 15 ∷ accepted ∷ closed plantFigures ∷ [])
     × (account twoPoints noDays plantCalls
     ≡ Said.accepted ∷ Said.refused ∷ Said.refused ∷ Said.refused ∷ Said.accepted ∷ Said.refused ∷ Said.accepted ∷ Said.closed exact ∷ [])
-    × (534 * kW ≡ exact + 906_003 * 62_995_968_000_000)
+    × (534 * kW ≡ exact + 906_003 * mW)
 
 -- THE WORKED SEQUENCES
 abbrev pub WorkedSequences : Type 0

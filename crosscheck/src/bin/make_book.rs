@@ -1,18 +1,18 @@
-//! Writes a book to standard output: `m`, `consumers`, `plants`, `refused`, or
-//! `case NUMBER` for a seeded one.
+//! Writes a book to standard output: `m`, `consumers`, `mixed_firing`, `refused`,
+//! or `case NUMBER` for a seeded one.
 
 use settlement::books::{examples, seeded_book};
 use std::io::{self, Write};
 use std::process::ExitCode;
 
-const USAGE: &str = "usage: make_book m | consumers | plants | refused | case NUMBER";
+const USAGE: &str = "usage: make_book m | consumers | mixed_firing | refused | case NUMBER";
 
 fn book_of(arguments: &[String]) -> Option<Vec<u8>> {
     let words: Vec<&str> = arguments.iter().map(String::as_str).collect();
     match words[..] {
         ["m"] => Some(examples::example_m()),
         ["consumers"] => Some(examples::consumers()),
-        ["plants"] => Some(examples::plants()),
+        ["mixed_firing"] => Some(examples::mixed_firing()),
         ["refused"] => Some(examples::refused()),
         ["case", number] => Some(seeded_book(number.parse().ok()?).book),
         _ => None,

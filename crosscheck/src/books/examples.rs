@@ -38,16 +38,23 @@ pub fn consumers() -> Vec<u8> {
     list.book()
 }
 
-/// Two mixed-firing plants with shares of 33.3% and 40%, with a shortfall.
-pub fn plants() -> Vec<u8> {
-    let mut list = List::new(Head::EXAMPLE_M);
-    let mut first = MixedFiringFields::flat(1, 333, 300_000, 200_001);
-    for (slot, outside) in (0..).zip(&mut first.readings[..WINDOW_SLOTS]) {
-        *outside += 7 * slot;
+/// List 3 of docs/ROUNDING.md: three mixed-firing plants and a generator, with a
+/// shortfall.
+pub fn mixed_firing() -> Vec<u8> {
+    let mut plant_a = MixedFiringFields::flat(1, 333, 400_700, 200_001);
+    let (outside, inside) = plant_a.readings.split_at_mut(WINDOW_SLOTS);
+    for (slot, (outside, inside)) in (0..).zip(outside.iter_mut().zip(inside)) {
+        *outside += 3_000 * slot;
+        *inside += 1_000 * slot;
     }
-    list.push(PointFields::MixedFiring(first));
-    let second = MixedFiringFields::flat(2, 400, 150_003, 50_002);
-    list.push(PointFields::MixedFiring(second));
+    let generator = GeneratorFields::flat(2, 100, 80_163);
+    let plant_b = MixedFiringFields::flat(3, 0, 6_500, 3_500);
+    let plant_c = MixedFiringFields::flat(4, 1_000, 123_456, 654_321);
+    let mut list = List::new(Head::EXAMPLE_M);
+    list.push(PointFields::MixedFiring(plant_a));
+    list.push(PointFields::Generator(generator));
+    list.push(PointFields::MixedFiring(plant_b));
+    list.push(PointFields::MixedFiring(plant_c));
     list.book()
 }
 

@@ -14,7 +14,7 @@ use std::process::{Child, Command, Output, Stdio};
 use std::thread;
 use std::time::Duration;
 
-use settlement::books::examples::{consumer_of_example_h, consumers, example_m, plants};
+use settlement::books::examples::{consumer_of_example_h, consumers, example_m, mixed_firing};
 use settlement::books::fields::{GeneratorFields, Head, List, MixedFiringFields, PointFields};
 use settlement::books::seeded_book;
 use settlement::limits::{HIGHEST_COUNT, WRITTEN_HEAD_LENGTH};
@@ -166,7 +166,7 @@ impl Trial {
 
     /// Reads that give fewer bytes than are due, and books that end early.
     fn short_reads(&mut self) {
-        let (m, plants, consumers) = (example_m(), plants(), consumers());
+        let (m, mixed_firing, consumers) = (example_m(), mixed_firing(), consumers());
         self.prints_in_pieces("byte by byte", &m, &settle_book_text(&m), 1, 1);
         let text = settle_book_text(&consumers);
         self.prints_in_pieces("pieces of 1,000 bytes", &consumers, &text, 1_000, 1);
@@ -174,8 +174,9 @@ impl Trial {
         for end in 1..m.len() {
             self.agrees(&format!("example M cut at byte {end}"), &m[..end]);
         }
-        for end in WRITTEN_HEAD_LENGTH..plants.len() {
-            self.agrees(&format!("plants cut at byte {end}"), &plants[..end]);
+        for end in WRITTEN_HEAD_LENGTH..mixed_firing.len() {
+            let name = format!("mixed-firing plants cut at byte {end}");
+            self.agrees(&name, &mixed_firing[..end]);
         }
     }
 
