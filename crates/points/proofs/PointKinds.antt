@@ -1,20 +1,20 @@
 -- Kinds of point by their tags, and what a point of the right form or with allowed values shows. Assumes nothing.
 use mathlib.Core.Path.{_≡_, refl, ap}
-use mathlib.Core.Bool.{Bool, true, false}
-use mathlib.Core.List.{List, []}
+use mathlib.Core.Bool.{true, false}
+use mathlib.Core.List.{List}
 use Prim.Native.Nat.{ℕ, _+_, _*_, _≤_, _<_}
 use native.Mathlib.Omega.{arith}
 use lib.Dec.{T, eqb, ltb, lt→ltb}
-use mir.Facts.{yes-and, no-eqb}
+use mir.Facts.{yes-and}
 use borrow.Author.Tests.{eqb-true, not-false, ne-eqb}
 use Rattle.numbers.specs.Lists.{any}
 use Rattle.numbers.specs.Refusals.{firstOf}
 use Rattle.numbers.proofs.Refusals.{numbered, clear, untold}
-use Rattle.numbers.proofs.Tests.{noneOf, none-cons}
+use Rattle.numbers.proofs.Tests.{noneOf}
 use Rattle.numbers.specs.PointNumbers.{numberLength}
 use Rattle.readings.specs.Readings.{readingLength}
 use Rattle.points.specs.Points.{consumerTag, generatorTag, mixedFiringTag, consumerLength, Kind, consumer, generator, mixedFiring, unknown, kindOf}
-use Rattle.points.specs.Points.{isUnknown, sizeOf, readingsAt, readingsIn, isUnfit, hasLarge, unfitNumber, formRows, largeRow, valueRows}
+use Rattle.points.specs.Points.{isUnknown, sizeOf, readingsAt, readingsIn, isUnfit, hasLarge, unfitNumber, formRows, valueRows}
 
 module _ (tag : ℕ) where
   -- the kind of a tag that is some number: at the number of a kind it computes
@@ -78,11 +78,7 @@ module _ (tag : ℕ) (value : List ℕ) where
   pub values-above : (n : ℕ) → n ≤ 15 → T (noneOf (λ row. eqb (row .1) n) (valueRows tag value))
   unfolding any
   values-above n h =
-      let unfit = no-eqb (λ (e : unfitNumber (kindOf tag) ≡ n). omega (arith, unfit-above (kindOf tag))) in
-      let large = no-eqb (λ (e : 17 ≡ n). omega arith) in
-      let kind = kindOf tag in
-      let is-n : Bool × ℕ → Bool = λ row. eqb (row .1) n in
-      none-cons is-n (isUnfit kind value, unfitNumber kind) (largeRow tag value) .1 (unfit, none-cons is-n (hasLarge kind value, 17) [] .1 (large, tt))
+      rw (ne-eqb (unfitNumber (kindOf tag)) n (λ e. omega (arith, unfit-above (kindOf tag))), ne-eqb 17 n (λ e. omega arith)) tt
 
   module _ (accepted : firstOf (valueRows tag value) ≡ 0) where
     pub fits : isUnfit (kindOf tag) value ≡ false
