@@ -6,15 +6,16 @@ use Prim.Native.Nat.{ℕ, zero, suc, _≤_}
 use native.Mathlib.Omega.{arith}
 use lib.ListN.{length, replicate}
 use Rattle.numbers.specs.Lists.{run}
-use Rattle.numbers.specs.Slots.{daysBack, daysUsed}
+use Rattle.numbers.specs.Slots.{daysBack, daysUsed, noDays}
 use Rattle.numbers.proofs.Filling.{run-length}
-use Rattle.calendar.specs.Eligible.{ofDay, isEligible}
+use Rattle.calendar.specs.Eligible.{ofDay, isEligible, eligibleDays}
 use Rattle.readings.specs.Readings.{readingCount, firstLarge, windowSums, lastWindow, earlierSlot, Back}
 use Rattle.readings.proofs.Bounds.{slot-sums-bound, earlier-use-bound}
 use Rattle.choosing.specs.Choosing.{isFew}
 use Rattle.baseline.specs.Baseline.{chosenDays, daySums, baselineOn}
-use Rattle.choosing.specs.Days.{choice}
+use Rattle.choosing.specs.Days.{Rising, choice}
 use Rattle.baseline.specs.Consumers.{Sums, mostConsumerBaseline}
+use Rattle.choosing.proofs.Rising.{Few, some-rising, rising-far}
 use Rattle.choosing.proofs.Flags.{flags-rising, flags-filter}
 use Rattle.choosing.proofs.Lowest.{chosen-few}
 
@@ -26,19 +27,29 @@ day-sums-bound readings fits days few back s h =
     let within = slot-sums-bound readings fits days few back in
     record { window = within s h; earlier = within (earlierSlot s) (omega arith) }
 
+eligible-rising : (test : ℕ) (marks : List ℕ) → Rising 0 daysBack (eligibleDays test marks)
+eligible-rising test marks =
+    let eligible = isEligible test marks in
+    rw (← flags-filter eligible 1 daysBack) (flags-rising (run eligible 1 daysBack) (omega (arith, run-length eligible 1 daysBack)))
+
 module _ (test : ℕ) (marks readings : List ℕ) (s : ℕ) where
-  pub chosen-days-few : (length (chosenDays test marks readings s) ≤ daysUsed) × Back (chosenDays test marks readings s)
-  chosen-days-few =
-      let eligible = isEligible test marks in
-      rw (← flags-filter eligible 1 daysBack)
-      (chosen-few (ofDay (windowSums readings s)) (flags-rising (run eligible 1 daysBack) (omega (arith, run-length eligible 1 daysBack))))
+  -- at most four of the eligible days
+  pub chosen-days-few : Few daysUsed (chosenDays test marks readings s) (eligibleDays test marks)
+  chosen-days-few = chosen-few (ofDay (windowSums readings s)) (eligible-rising test marks)
+
+  pub chosen-days-rising : Rising 0 daysBack (chosenDays test marks readings s)
+  chosen-days-rising = some-rising (chosen-days-few .1) (eligible-rising test marks)
+
+  pub chosen-days-back : Back (chosenDays test marks readings s)
+  chosen-days-back i = rising-far i chosen-days-rising
 
   pub baseline-bound : firstLarge readings readingCount ≡ readingCount → s ≤ lastWindow
       → (j : ℕ) → baselineOn readings (chosenDays test marks readings s) s j ≤ mostConsumerBaseline
   baseline-bound fits h j =
-      let sums = day-sums-bound readings fits (chosenDays test marks readings s) (chosen-days-few .0) (chosen-days-few .1) s h in
+      let sums = day-sums-bound readings fits (chosenDays test marks readings s) (chosen-days-few .0) chosen-days-back s h in
       omega (arith, sums .window j, earlier-use-bound readings fits s h)
 
+-- the answer's days too
 zeros-back : (n : ℕ) → Back (replicate n 0)
 zeros-back zero i = omega arith
 zeros-back (suc n) zero = omega arith
@@ -48,6 +59,6 @@ pub choice-back : (days : List ℕ) → Back days → Back (choice days .days)
 unfolding choice
 choice-back days h = go (isFew days)
   where
-    go : (t : Bool) → Back (cond t (replicate daysUsed 0) days)
+    go : (t : Bool) → Back (cond t noDays days)
     go true = zeros-back daysUsed
     go false = h

@@ -2,7 +2,8 @@
 use mathlib.Core.List.{List, [], _∷_}
 use Prim.Native.Nat.{ℕ, _+_, _*_, _-_}
 use lib.ListN.{getD}
-use Rattle.numbers.specs.Lists.{sum}
+use Rattle.numbers.specs.Lists.{run, sum}
+use Rattle.numbers.specs.Slots.{windowSlots}
 use Rattle.calendar.specs.Eligible.{ofDay, eligibleDays}
 use Rattle.readings.specs.Readings.{windowSums, slotSums, earlierSlot, earlierUse}
 use Rattle.choosing.specs.Choosing.{chosen}
@@ -23,3 +24,7 @@ baseline sums earlier j = 6 * getD (getD sums 0 []) j 0 + 4 * earlier - sum (get
 -- the baseline of window slot j on some days, which are all that it takes of the days back
 abbrev pub baselineOn : List ℕ → List ℕ → ℕ → ℕ → ℕ
 baselineOn readings days s j = baseline (daySums readings days s) (earlierUse readings s) j
+
+-- that of the six window slots
+abbrev pub baselinesOn : List ℕ → List ℕ → ℕ → List ℕ
+baselinesOn readings days s = run (baselineOn readings days s) 0 windowSlots

@@ -1,16 +1,11 @@
--- What the contracts require of a consumer's readings and sums, and the answer.
+-- What the contracts require of a consumer's readings and sums.
 use mathlib.Core.Path.{_≡_}
-use mathlib.Core.Bool.{cond, not}
 use mathlib.Core.List.{List, []}
 use Prim.Native.Nat.{ℕ, _+_, _*_, _≤_}
-use lib.ListN.{getD, replicate}
-use Rattle.numbers.specs.Lists.{run}
+use lib.ListN.{getD}
 use Rattle.numbers.specs.Slots.{daysBack, daysUsed, windowSlots}
 use Rattle.readings.specs.Readings.{mostReading, readingCount, firstLarge, earlierBy, HasWindow}
-use Rattle.choosing.specs.Choosing.{isFew}
 use Rattle.choosing.specs.Days.{AtMost}
-use Rattle.baseline.specs.Baseline.{chosenDays, baselineOn}
-use Rattle.baseline.specs.declared.Baselines.{Baselines}
 
 -- a consumer's readings, none above the limit, and the first slot of a window
 pub record Tested (readings : List ℕ) (slot : ℕ) : Type 0 where
@@ -31,15 +26,3 @@ pub record Sums (sums : List (List ℕ)) : Type 0 where
 -- twenty-fourths of a Wh, of a consumer's baseline: six times a four-day sum and four times the earlier use
 abbrev pub mostConsumerBaseline : ℕ
 mostConsumerBaseline = (6 * daysUsed + 4 * windowSlots) * mostReading
-
--- the answer with the baseline on some days; nothing else of the days back is in it
-unfoldable pub baselinesOn : List ℕ → List ℕ → ℕ → Baselines
-baselinesOn days readings s = record {
-  enough = not (isFew days);
-  days = cond (isFew days) (replicate daysUsed 0) days;
-  slots = cond (isFew days) (replicate windowSlots 0) (run (baselineOn readings days s) 0 windowSlots);
-}
-
--- the answer on the days of a consumer, for the count of the test day
-abbrev pub consumerBaselines : ℕ → List ℕ → List ℕ → ℕ → Baselines
-consumerBaselines test marks readings s = baselinesOn (chosenDays test marks readings s) readings s

@@ -1,12 +1,12 @@
-// The baseline of a consumer: the choice of days ends in two arrays of sums, and from these the baseline is worked out.
+// The four days of a consumer, and its baseline on them: the days end in two arrays of sums, and from these the baseline is worked out.
 ghost use mathlib.Core.Path.{_≡_};
 ghost use Prim.Native.Nat.{_+_, _*_, _-_, _≤_};
 ghost use Rattle.numbers.specs.Lists.{run, sum};
 ghost use Rattle.numbers.specs.Slots.{daysUsed, windowSlots};
 ghost use Rattle.readings.specs.Readings.{mostReading, Back};
 ghost use Rattle.choosing.specs.Days.{AtMost, choice};
-ghost use Rattle.baseline.specs.Baseline.{chosenDays, daySums, baseline};
-ghost use Rattle.baseline.specs.Consumers.{Tested, TestedOn, Sums, consumerBaselines};
+ghost use Rattle.baseline.specs.Baseline.{chosenDays, daySums, baseline, baselinesOn};
+ghost use Rattle.baseline.specs.Consumers.{Tested, TestedOn, Sums};
 use calendar::eligible_days;
 use choosing::Chosen;
 use choosing::choose;
@@ -18,16 +18,8 @@ use readings::earlier_use;
 use readings::slot_sums;
 use readings::window_sums;
 
-// The four days of a consumer, nearest first, and its baseline in each window slot, in twenty-fourths of a Wh; zeros where there are
-// not enough days.
-pub struct Baselines {
-    pub enough: bool,
-    pub days: [usize; DAYS_USED],
-    pub slots: [u64; WINDOW_SLOTS],
-}
-
 // The four days of a consumer, for the count of the test day.
-fn chosen_days(test: u32, marks: [u8; DAYS_BACK], readings: &[u8], slot: usize) -> Chosen
+pub fn chosen_days(test: u32, marks: [u8; DAYS_BACK], readings: &[u8], slot: usize) -> Chosen
     requires { ⌜ TestedOn test (now readings) slot ⌝ }
     ensures chosen { λ r. ⌜ r ≡ choice (chosenDays test marks (now (readings .entry)) slot) ⌝ }
     ensures back { λ r. ⌜ Back (r .days) ⌝ }
@@ -86,33 +78,13 @@ fn baselines_of(sums: [[u64; WINDOW_SLOTS]; 2], earlier: u64) -> [u64; WINDOW_SL
     slots
 }
 
-// The days of a consumer and its baseline on them. Here the choice of days hands two arrays of six sums to the baseline, which sees
-// nothing else of the days back.
-pub fn consumer_baselines(
-    test: u32,
-    marks: [u8; DAYS_BACK],
-    readings: &[u8],
-    slot: usize,
-) -> Baselines
-    requires { ⌜ TestedOn test (now readings) slot ⌝ }
-    ensures { λ r. ⌜ r ≡ consumerBaselines test marks (now (readings .entry)) slot ⌝ }
+// The baseline on four days, in each window slot and in twenty-fourths of a Wh. Here the days of the choice become two arrays of six sums,
+// and the baseline is handed these and nothing else of the days back.
+pub fn baselines_on(readings: &[u8], days: [usize; DAYS_USED], slot: usize) -> [u64; WINDOW_SLOTS]
+    requires { ⌜ Tested (now readings) slot × Back days ⌝ }
+    ensures { λ r. ⌜ r ≡ baselinesOn (now (readings .entry)) days slot ⌝ }
 {
-    let chosen = chosen_days(test, marks, readings, slot);
-    let enough = chosen.enough;
-    if !enough {
-        return Baselines {
-            enough: false,
-            days: [0; DAYS_USED],
-            slots: [0; WINDOW_SLOTS],
-        };
-    }
-    let days = chosen.days;
     let sums = day_sums(readings, days, slot);
     let earlier = earlier_use(readings, slot);
-    let slots = baselines_of(sums, earlier);
-    Baselines {
-        enough: true,
-        days,
-        slots,
-    }
+    baselines_of(sums, earlier)
 }

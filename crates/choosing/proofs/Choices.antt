@@ -11,7 +11,7 @@ use Rattle.choosing.specs.Choosing.{standing, lowest, used, isFew, chose
 use Rattle.choosing.specs.Days.{Rising, HoldsDays, choice}
 use Rattle.choosing.specs.declared.Chosen.{Chosen}
 use Rattle.choosing.specs.declared.Round.{Round}
-use Rattle.choosing.proofs.Rising.{without}
+use Rattle.choosing.proofs.Rising.{some-rising, without}
 use Rattle.choosing.proofs.Rounds.{standing-few}
 use Rattle.choosing.proofs.Lowest.{used-five, used-fewer, four-left}
 
@@ -37,7 +37,7 @@ unfolding choice
 four-chosen days h = simp (le-ltb (length days) 4 (omega arith))
 
 -- the first four places
-four-places : (days : List ℕ) → 4 ≤ length days → take 4 days ≡ getD days 0 0 ∷ getD days 1 0 ∷ getD days 2 0 ∷ getD days 3 0 ∷ []
+pub four-places : (days : List ℕ) → 4 ≤ length days → take 4 days ≡ getD days 0 0 ∷ getD days 1 0 ∷ getD days 2 0 ∷ getD days 3 0 ∷ []
 four-places days h =
     let one = take-suc days in
     rw (one 3 0 (omega arith), one 2 0 (omega arith), one 1 0 (omega arith), one 0 0 (omega arith))
@@ -60,7 +60,7 @@ module _ {w : ℕ → ℕ} (days : List ℕ) {r : Round} (stood : HoldsDays w (s
     five = sym (take-all (r .count) (r .days) (omega arith)) ∙ stood .held
 
     pub standing-rising : {near far : ℕ} → Rising near far days → Rising near far (r .days)
-    standing-rising q = rw five (standing-few w q .1)
+    standing-rising q = rw five (some-rising (standing-few w days .1) q)
 
     pub lowest-goes : {near far : ℕ} (low : ℕ) → low ≡ lowest w (getD (r .days) 0 0) (drop 1 (r .days)) → Rising near far days
         → (length (without low (r .days)) ≡ 4) × (choice (chosen w days) ≡ record { enough = true; days = without low (r .days) })

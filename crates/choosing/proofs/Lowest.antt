@@ -10,9 +10,9 @@ use lib.ListN.{length, getD, drop, drop-of-length-le}
 use lib.Seq.{drop-cons}
 use borrow.Author.Tests.{le-leb, lt-leb, eq-eqb, ne-eqb, eqb-true, eqb-false}
 use Rattle.numbers.specs.Slots.{daysUsed}
-use Rattle.choosing.specs.Choosing.{roundDays, lowest, used, chosen}
-use Rattle.choosing.specs.Days.{AtMost, Rising, none, next}
-use Rattle.choosing.proofs.Rising.{Few, In, here, there, without, without-length, rising-filter, rising-far}
+use Rattle.choosing.specs.Choosing.{roundDays, standing, lowest, used, chosen}
+use Rattle.choosing.specs.Days.{Rising}
+use Rattle.choosing.proofs.Rising.{SomeOf, stop, Few, some-all, some-some, some-filter, some-rising, In, here, there, without, without-length}
 use Rattle.choosing.proofs.Rounds.{standing-few}
 
 module _ (w : ℕ → ℕ) where
@@ -62,17 +62,20 @@ module _ (w : ℕ → ℕ) where
   four-left [] h r = absurd (omega arith)
   four-left (k ∷ days) h r = omega (arith, without-length r (lowest-in k days))
 
-  used-few : {near far : ℕ} {days : List ℕ} → Few roundDays near far days → Few daysUsed near far (used w days)
+  used-few : {near far : ℕ} (days : List ℕ) → length days ≤ roundDays → Rising near far days → Few daysUsed (used w days) days
   unfolding used
-  used-few (h, none l) = (omega arith, none l)
-  used-few {near} {far} (h, next {k = k} {days = days} l r) = go (eqb (length (k ∷ days)) 5) refl (next l r)
+  used-few [] h r = (omega arith, stop)
+  used-few (k ∷ days) h r = go (eqb (length (k ∷ days)) 5) refl
     where
-      go : (t : Bool) → eqb (length (k ∷ days)) 5 ≡ t → Rising near far (k ∷ days)
-          → Few daysUsed near far (cond t (without (lowest w k days) (k ∷ days)) (k ∷ days))
-      go true p q = (omega (arith, four-left (k ∷ days) (eqb-true _ _ p) q), rising-filter _ q)
-      go false p q = let n : length (k ∷ days) ≡ 5 → ⊥ = eqb-false _ _ p in (omega arith, q)
+      go : (t : Bool) → eqb (length (k ∷ days)) 5 ≡ t
+          → Few daysUsed (cond t (without (lowest w k days) (k ∷ days)) (k ∷ days)) (k ∷ days)
+      go true p = (omega (arith, four-left (k ∷ days) (eqb-true _ _ p) r), some-filter _ (k ∷ days))
+      go false p = let n : length (k ∷ days) ≡ 5 → ⊥ = eqb-false _ _ p in (omega arith, some-all (k ∷ days))
 
-  -- at most four days are chosen, none farther than the days chosen from
-  pub chosen-few : {near far : ℕ} {days : List ℕ} → Rising near far days → (length (chosen w days) ≤ daysUsed) × AtMost far (chosen w days)
+  -- at most four days are chosen, of the days chosen from and in their order
+  pub chosen-few : {near far : ℕ} {days : List ℕ} → Rising near far days → Few daysUsed (chosen w days) days
   unfolding chosen
-  chosen-few r = let few = used-few (standing-few w r) in (few .0, λ i. rising-far i (few .1))
+  chosen-few {days = days} r =
+      let stood = standing-few w days in
+      let few = used-few (standing w days) (stood .0) (some-rising (stood .1) r) in
+      (few .0, some-some (stood .1) (few .1))

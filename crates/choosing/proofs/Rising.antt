@@ -1,9 +1,9 @@
--- Days that rise: some of them rise too, and each is there once. Assumes nothing.
+-- Some days of a list. Days that rise: some of them rise too, and each is there once. Assumes nothing.
 use mathlib.Core.Path.{_≡_, refl, ap}
 use mathlib.Core.Bool.{Bool, true, false, cond, not}
-use mathlib.Core.List.{List, _∷_, _++_}
+use mathlib.Core.List.{List, [], _∷_, _++_}
 use Prim.Native.Nat.{ℕ, zero, suc, _<_, _≤_}
-use native.Mathlib.Nat.{le-refl, le-trans, le-of-lt, lt-of-le-of-lt}
+use native.Mathlib.Nat.{le-trans, le-of-lt, lt-of-le-of-lt}
 use native.Mathlib.Omega.{arith}
 use lib.Dec.{eqb}
 use lib.ListN.{length, getD, take, drop}
@@ -11,9 +11,48 @@ use borrow.Author.Tests.{eq-eqb, ne-eqb}
 use Rattle.numbers.specs.Lists.{filter}
 use Rattle.choosing.specs.Days.{Rising, none, next}
 
--- at most n days, and they rise
-abbrev pub Few : ℕ → ℕ → ℕ → List ℕ → Type 0
-Few n near far days = (length days ≤ n) × Rising near far days
+-- some days of a list, in their order
+pub data SomeOf : List ℕ → List ℕ → Type 0 where
+  stop : {all : List ℕ} → SomeOf [] all
+  keep : {k : ℕ} {days all : List ℕ} → SomeOf days all → SomeOf (k ∷ days) (k ∷ all)
+  skip : {k : ℕ} {days all : List ℕ} → SomeOf days all → SomeOf days (k ∷ all)
+
+pub some-all : (days : List ℕ) → SomeOf days days
+some-all [] = stop
+some-all (k ∷ days) = keep (some-all days)
+
+pub some-some : {days more all : List ℕ} → SomeOf more all → SomeOf days more → SomeOf days all
+some-some stop stop = stop
+some-some (keep p) stop = stop
+some-some (keep p) (keep q) = keep (some-some p q)
+some-some (keep p) (skip q) = skip (some-some p q)
+some-some (skip p) q = skip (some-some p q)
+
+pub some-filter : (test : ℕ → Bool) (days : List ℕ) → SomeOf (filter test days) days
+unfolding filter
+some-filter test [] = stop
+some-filter test (k ∷ days) = go (test k) (some-filter test days)
+  where
+    go : (t : Bool) {left : List ℕ} → SomeOf left days → SomeOf (cond t (k ∷ left) left) (k ∷ days)
+    go true p = keep p
+    go false p = skip p
+
+pub some-take : (n : ℕ) (days : List ℕ) → SomeOf (take n days) days
+some-take zero days = stop
+some-take (suc n) [] = stop
+some-take (suc n) (k ∷ days) = keep (some-take n days)
+
+-- some of the first n, and all behind them
+pub some-before : (n : ℕ) (days : List ℕ) {left : List ℕ} → SomeOf left (take n days) → SomeOf (left ++ drop n days) days
+some-before zero days stop = some-all days
+some-before (suc n) [] stop = stop
+some-before (suc n) (k ∷ days) stop = skip (some-before n days stop)
+some-before (suc n) (k ∷ days) (keep p) = keep (some-before n days p)
+some-before (suc n) (k ∷ days) (skip p) = skip (some-before n days p)
+
+-- at most n of some days
+abbrev pub Few : ℕ → List ℕ → List ℕ → Type 0
+Few n days all = (length days ≤ n) × SomeOf days all
 
 pub rising-nearer : {near mid far : ℕ} {days : List ℕ} → near ≤ mid → Rising mid far days → Rising near far days
 rising-nearer h (none l) = none (le-trans h l)
@@ -27,32 +66,28 @@ pub rising-append : {near mid far : ℕ} {xs ys : List ℕ} → Rising near mid 
 rising-append (none l) q = rising-nearer l q
 rising-append (next l r) q = next l (rising-append r q)
 
-pub rising-filter : {near far : ℕ} {days : List ℕ} (test : ℕ → Bool) → Rising near far days → Rising near far (filter test days)
-unfolding filter
-rising-filter test (none l) = none l
-rising-filter {near} {far} test (next {k = k} {days = days} l r) = go (test k) (rising-filter test r)
-  where
-    go : (t : Bool) → Rising k far (filter test days) → Rising near far (cond t (k ∷ filter test days) (filter test days))
-    go true q = next l q
-    go false q = rising-nearer (le-of-lt l) q
-
 rising-le : {near far : ℕ} {days : List ℕ} → Rising near far days → near ≤ far
 rising-le (none l) = l
 rising-le (next l r) = omega (arith, rising-le r)
+
+pub some-rising : {near far : ℕ} {days all : List ℕ} → SomeOf days all → Rising near far all → Rising near far days
+some-rising stop r = none (rising-le r)
+some-rising (keep p) (next l r) = next l (some-rising p r)
+some-rising (skip p) (next l r) = rising-nearer (le-of-lt l) (some-rising p r)
+
+pub rising-filter : {near far : ℕ} {days : List ℕ} (test : ℕ → Bool) → Rising near far days → Rising near far (filter test days)
+rising-filter {days = days} test = some-rising (some-filter test days)
 
 pub rising-at : {near far : ℕ} {days : List ℕ} (i : ℕ) → i < length days → Rising near far days → (near < getD days i 0) × (getD days i 0 ≤ far)
 rising-at i h (none l) = absurd (omega arith)
 rising-at zero h (next l r) = (l, rising-le r)
 rising-at (suc i) h (next l r) = let q = rising-at i (omega arith) r in (omega arith, q .1)
 
-pub rising-split : {near far : ℕ} {days : List ℕ} (n : ℕ) → Rising near far days
-    → (mid : ℕ) × Rising near mid (take n days) × Rising mid far (drop n days)
-rising-split {near} zero r = (near, none (le-refl near), r)
-rising-split {near} (suc n) (none l) = (near, none (le-refl near), none l)
-rising-split (suc n) (next l r) = let q = rising-split n r in (q .0, next l (q .1), q .2)
-
-pub rising-take : {near far : ℕ} {days : List ℕ} (n : ℕ) → Rising near far days → Rising near far (take n days)
-rising-take n r = let q = rising-split n r in rising-farther (rising-le (q .2)) (q .1)
+pub rising-order : {near far : ℕ} {days : List ℕ} (i j : ℕ) → i < j → j < length days → Rising near far days → getD days i 0 < getD days j 0
+rising-order i j h l (none q) = absurd (omega arith)
+rising-order i zero h l (next q r) = absurd (omega arith)
+rising-order zero (suc j) h l (next q r) = rising-at j (omega arith) r .0
+rising-order (suc i) (suc j) h l (next q r) = rising-order i j (omega arith) (omega arith) r
 
 -- past the last day stands 0
 pub rising-far : {near far : ℕ} {days : List ℕ} (i : ℕ) → Rising near far days → getD days i 0 ≤ far
@@ -64,6 +99,30 @@ rising-far (suc i) (next l r) = rising-far i r
 pub data In : ℕ → List ℕ → Type 0 where
   here : {d : ℕ} {days : List ℕ} → In d (d ∷ days)
   there : {d k : ℕ} {days : List ℕ} → In d days → In d (k ∷ days)
+
+pub in-place : (days : List ℕ) (i : ℕ) → i < length days → In (getD days i 0) days
+in-place [] i h = absurd (omega arith)
+in-place (k ∷ days) zero h = here
+in-place (k ∷ days) (suc i) h = there (in-place days i (omega arith))
+
+pub in-some : {d : ℕ} {days all : List ℕ} → SomeOf days all → In d days → In d all
+in-some (keep p) here = here
+in-some (keep p) (there q) = there (in-some p q)
+in-some (skip p) q = there (in-some p q)
+
+in-length : {d : ℕ} {days : List ℕ} → In d days → 0 < length days
+in-length here = omega arith
+in-length (there p) = omega arith
+
+pub in-filter : {d : ℕ} (test : ℕ → Bool) (days : List ℕ) → In d (filter test days) → test d ≡ true
+unfolding filter
+in-filter test [] = λ p. absurd (omega (arith, in-length p))
+in-filter test (k ∷ days) = go (test k) refl (in-filter test days)
+  where
+    go : (t : Bool) → test k ≡ t → {d : ℕ} {left : List ℕ} → (In d left → test d ≡ true) → In d (cond t (k ∷ left) left) → test d ≡ true
+    go true e f here = e
+    go true e f (there q) = f q
+    go false e f q = f q
 
 -- some days without day d
 abbrev pub without : ℕ → List ℕ → List ℕ

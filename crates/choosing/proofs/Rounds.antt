@@ -11,8 +11,7 @@ use lib.Seq.{take-at, drop-at, length-take-le}
 use borrow.Author.Tests.{eq-eqb, ne-eqb, lt-ltb, le-ltb, ltb-true, ltb-false, eqb-false}
 use Rattle.numbers.specs.Lists.{filter}
 use Rattle.choosing.specs.Choosing.{roundDays, round, walk, standing}
-use Rattle.choosing.specs.Days.{Rising}
-use Rattle.choosing.proofs.Rising.{Few, rising-filter, rising-append, rising-split, rising-take}
+use Rattle.choosing.proofs.Rising.{SomeOf, Few, some-all, some-some, some-filter, some-take, some-before}
 
 -- a test that all pass, or not
 filter-all-or-less : (test : ℕ → Bool) (days : List ℕ) → (filter test days ≡ days) ⊎ (length (filter test days) < length days)
@@ -88,21 +87,25 @@ module _ (w : ℕ → ℕ) where
         once-more (five ++ rest) ∙ simp (le-ltb _ _ long, take-at five rest 5 h, drop-at five rest 5 h, ne-eqb _ _ n)
         (enough (length (five ++ rest)) (length left) left less (omega arith))
 
-  walk-few : {near far : ℕ} {days : List ℕ} (n : ℕ) → length days ≤ n → Rising near far days → Few roundDays near far (walk w n days)
+  after-some : (days : List ℕ) → SomeOf (after days) days
+  unfolding after
+  after-some days = some-before 5 days (some-filter _ (take 5 days))
+
+  walk-few : (n : ℕ) (days : List ℕ) → length days ≤ n → Few roundDays (walk w n days) days
   unfolding walk after
-  walk-few zero h r = (omega arith, r)
-  walk-few {near} {far} {days} (suc n) h r =
-      let q = rising-split 5 r in
-      go (ltb (length days) 5) (eqb (length (round w (take 5 days))) 5) refl refl
-      (λ l. walk-few n (omega arith) (rising-append (rising-filter _ (q .1)) (q .2)))
+  walk-few zero days h = (omega arith, some-all days)
+  walk-few (suc n) days h =
+      go (ltb (length days) 5) (eqb (length (round w (take 5 days))) 5) refl refl (λ l. walk-few n (after days) (omega arith))
     where
       go : (a b : Bool) → ltb (length days) 5 ≡ a → eqb (length (round w (take 5 days))) 5 ≡ b
-          → (length (after days) < length days → Few roundDays near far (walk w n (after days)))
-          → Few roundDays near far (cond a days (cond b (take 5 days) (walk w n (after days))))
-      go true b p q f = let l : length days < 5 = ltb-true _ _ p in (omega arith, r)
-      go false true p q f = (omega (arith, length-take 5 days), rising-take 5 r)
-      go false false p q f = f (after-less days (ltb-false _ _ p) (eqb-false _ _ q))
+          → (length (after days) < length days → Few roundDays (walk w n (after days)) (after days))
+          → Few roundDays (cond a days (cond b (take 5 days) (walk w n (after days)))) days
+      go true b p q f = let l : length days < 5 = ltb-true _ _ p in (omega arith, some-all days)
+      go false true p q f = (omega (arith, length-take 5 days), some-take 5 days)
+      go false false p q f =
+          let few = f (after-less days (ltb-false _ _ p) (eqb-false _ _ q)) in
+          (few .0, some-some (after-some days) (few .1))
 
-  -- at most five days stand, in the order of the days walked over and none twice
-  pub standing-few : {near far : ℕ} {days : List ℕ} → Rising near far days → Few roundDays near far (standing w days)
-  standing-few {days = days} r = walk-few (length days) (omega arith) r
+  -- at most five days stand, of the days walked over and in their order
+  pub standing-few : (days : List ℕ) → Few roundDays (standing w days) days
+  standing-few days = walk-few (length days) days (omega arith)

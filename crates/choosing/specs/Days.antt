@@ -3,9 +3,9 @@ use mathlib.Core.Path.{_≡_}
 use mathlib.Core.Bool.{Bool, cond, not}
 use mathlib.Core.List.{List, [], _∷_, map}
 use Prim.Native.Nat.{ℕ, suc, _*_, _<_, _≤_}
-use lib.ListN.{length, getD, take, replicate}
+use lib.ListN.{length, getD, take}
 use Rattle.numbers.specs.Lists.{sum}
-use Rattle.numbers.specs.Slots.{daysBack, daysUsed, windowSlots}
+use Rattle.numbers.specs.Slots.{daysBack, noDays, windowSlots}
 use Rattle.calendar.specs.Eligible.{ofDay}
 use Rattle.readings.specs.Readings.{mostReading}
 use Rattle.choosing.specs.Choosing.{roundDays, round, standing, isFew}
@@ -59,4 +59,4 @@ Stood sums eligible r = HoldsDays (ofDay sums) (standing (ofDay sums) (daysFrom 
 
 -- the answer on the chosen days: four, or zeros where there are fewer
 unfoldable pub choice : List ℕ → Chosen
-choice days = record { enough = not (isFew days); days = cond (isFew days) (replicate daysUsed 0) days }
+choice days = record { enough = not (isFew days); days = cond (isFew days) noDays days }

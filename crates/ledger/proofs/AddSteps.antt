@@ -7,21 +7,22 @@ use native.Mathlib.Omega.{arith}
 use lib.IntN.{ℤ, pos, natAbs}
 use lib.ListN.{length, getD}
 use borrow.Author.Tests.{eq-eqb, ne-eqb, not-true, not-false}
+use Rattle.numbers.specs.Slots.{noDays}
 use Rattle.numbers.specs.PointNumbers.{numberLength}
 use Rattle.numbers.specs.Refusals.{firstOf}
 use Rattle.numbers.proofs.Refusals.{untold, told, passed, both-accepted}
 use Rattle.heads.specs.declared.Head.{Head}
 use Rattle.heads.proofs.Opening.{opens}
-use Rattle.points.specs.Points.{Kind, kindOf}
+use Rattle.points.specs.Points.{Kind, kindOf, numberOf}
 use Rattle.points.proofs.PointKinds.{known-length, values-numbered}
-use Rattle.results.specs.SlotResults.{lacksDays, results}
+use Rattle.results.specs.SlotResults.{lacksDays, daysTold, results}
 use Rattle.results.specs.Steps.{foundOf}
 use Rattle.results.specs.declared.Found.{Found}
-use Rattle.ledger.specs.States.{slotTotals}
-use Rattle.ledger.specs.Operations.{daysRow, addingRefusal, earlyTests, earlyRefusal, addOf, placesOf, resultsOf}
+use Rattle.ledger.specs.States.{slotTotals, taken}
+use Rattle.ledger.specs.Operations.{daysRow, addingRefusal, earlyTests, earlyRefusal, addOf, placesOf, resultsOf, daysToldOf}
 use Rattle.ledger.specs.declared.State.{State}
 use Rattle.ledger.proofs.Taking.{Given, given, result-small}
-use Rattle.ledger.proofs.Sound.{Sound, sound, sound-is, total-small, add-bad}
+use Rattle.ledger.proofs.Sound.{Sound, sound, sound-is, total-small, add-good, add-bad}
 
 -- ---- the days
 
@@ -34,9 +35,9 @@ module _ (h : Head) (marks : List ℕ) (kind : Kind) (value : List ℕ) {answer 
   unfolding foundOf
   days-suffice t = not-true _ (not-false _ (rw e at t))
 
-  pub found-is : lacksDays h marks kind value ≡ false → answer .found ≡ results h marks kind value
+  pub found-is : lacksDays h marks kind value ≡ false → (answer .found ≡ results h marks kind value) × (answer .days ≡ daysTold h marks kind value)
   unfolding foundOf
-  found-is l = rw e (simp l)
+  found-is l = (rw e (simp l), rw e (simp l))
 
 -- ---- the rows
 
@@ -77,6 +78,11 @@ module _ (state : State) (tag : ℕ) (value : List ℕ) (places : ℕ) where
   unfolding addingRefusal earlyRefusal
   accepted e = early (both-accepted (earlyTests state tag value places) (daysRow (state .head) (state .marks) tag value) (values-numbered tag value) e .0)
 
+  -- and then the answer has these days
+  pub took : {days : List ℕ} → addingRefusal state tag value places ≡ 0 → days ≡ daysToldOf state tag value
+      → record { refusal = 0; state = taken state (resultsOf state tag value) (numberOf value); days = days } ≡ addOf state tag value places
+  took e d = rw (d, add-good state tag value places e)
+
 -- ---- the lent places
 
 module _ (state : State) (tag : ℕ) (value : List ℕ) (places : List ℤ) where
@@ -84,8 +90,8 @@ module _ (state : State) (tag : ℕ) (value : List ℕ) (places : List ℤ) wher
   unfolding placesOf
   places-good e = simp (eq-eqb _ _ e)
 
-  -- a refused adding: the state and the places are as they were
+  -- a refused adding: the state and the places are as they were, and no days are told
   pub refused : {n : ℕ} → addingRefusal state tag value (length places) ≡ n → (n ≡ 0 → ⊥)
-      → (record { refusal = n; state = state } ≡ addOf state tag value (length places)) × (places ≡ placesOf state tag value places)
+      → (record { refusal = n; state = state; days = noDays } ≡ addOf state tag value (length places)) × (places ≡ placesOf state tag value places)
   unfolding placesOf
   refused e h = (rw (add-bad state tag value (length places) (λ z. h (sym e ∙ z)), e), simp (ne-eqb _ _ (λ z. h (sym e ∙ z))))

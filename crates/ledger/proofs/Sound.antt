@@ -11,13 +11,14 @@ use lib.ListN.{getD}
 use mir.Facts.{ltb-no, no-ltb}
 use borrow.Author.Tests.{eqb-true, eq-eqb, ne-eqb, ltb-false, le-ltb, not-false}
 use Rattle.numbers.specs.Lists.{any}
+use Rattle.numbers.specs.Slots.{noDays}
 use Rattle.numbers.specs.PointNumbers.{isNumber}
 use Rattle.heads.specs.Limits.{mostResult}
 use Rattle.heads.specs.Heads.{headOf, contentRefusal, openingRefusal}
 use Rattle.points.specs.Points.{numberOf}
 use Rattle.ledger.specs.States.{opened, noState, slotTotals, isUnsound, taken}
 use Rattle.figures.specs.Figures.{figuresOf, noFigures}
-use Rattle.ledger.specs.Operations.{openOf, pointRefusal, addingRefusal, resultsOf, addOf, closingRefusal, closeOf}
+use Rattle.ledger.specs.Operations.{openOf, pointRefusal, addingRefusal, resultsOf, daysToldOf, addOf, closingRefusal, closeOf}
 use Rattle.ledger.specs.declared.State.{State}
 use Rattle.ledger.specs.declared.Opened.{Opened}
 use Rattle.ledger.specs.declared.Added.{Added}
@@ -57,13 +58,14 @@ module _ (state : State) (tag : ℕ) (value : List ℕ) (places : ℕ) where
   add-refusal = told {A = Added} (λ a. a .refusal) (addingRefusal state tag value places) _ _ refl refl
 
   pub add-good : addingRefusal state tag value places ≡ 0
-      → addOf state tag value places ≡ record { refusal = 0; state = taken state (resultsOf state tag value) (numberOf value) }
+      → addOf state tag value places
+      ≡ record { refusal = 0; state = taken state (resultsOf state tag value) (numberOf value); days = daysToldOf state tag value }
   unfolding addOf
   add-good e = simp (eq-eqb _ _ e)
 
-  -- a refused adding leaves the state
+  -- a refused adding leaves the state and tells no days
   pub add-bad : (addingRefusal state tag value places ≡ 0 → ⊥)
-      → addOf state tag value places ≡ record { refusal = addingRefusal state tag value places; state = state }
+      → addOf state tag value places ≡ record { refusal = addingRefusal state tag value places; state = state; days = noDays }
   unfolding addOf
   add-bad n = simp (ne-eqb _ _ n)
 

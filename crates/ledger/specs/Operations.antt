@@ -6,11 +6,11 @@ use lib.Dec.{leb, ltb, eqb}
 use lib.IntN.{ℤ}
 use lib.ListN.{length}
 use Rattle.numbers.specs.Refusals.{firstOf}
-use Rattle.numbers.specs.Slots.{windowSlots}
+use Rattle.numbers.specs.Slots.{noDays, windowSlots}
 use Rattle.numbers.specs.PointNumbers.{below}
 use Rattle.heads.specs.Heads.{headOf, openingRefusal}
 use Rattle.points.specs.Points.{kindOf, numberOf, formRows, numberRow, valueRows}
-use Rattle.results.specs.SlotResults.{lacksDays, results}
+use Rattle.results.specs.SlotResults.{lacksDays, daysTold, results}
 use Rattle.ledger.specs.States.{opened, noState, slotTotals, isUnsound, taken}
 use Rattle.figures.specs.Figures.{figuresOf, noFigures}
 use Rattle.heads.specs.declared.Head.{Head}
@@ -96,12 +96,17 @@ earlyRefusal state tag value places = firstOf (earlyTests state tag value places
 abbrev pub resultsOf : State → ℕ → List ℕ → List ℤ
 resultsOf state tag value = results (state .head) (state .marks) (kindOf tag) value
 
+-- CR 2: the four days that are told of it
+abbrev pub daysToldOf : State → ℕ → List ℕ → List ℕ
+daysToldOf state tag value = daysTold (state .head) (state .marks) (kindOf tag) value
+
+-- the answer; CR 2: 'A refused call gives four zeros.'
 unfoldable pub addOf : State → ℕ → List ℕ → ℕ → Added
 addOf state tag value places =
     let refusal = addingRefusal state tag value places in
     cond (eqb refusal 0)
-    (record { refusal = 0; state = taken state (resultsOf state tag value) (numberOf value) })
-    (record { refusal = refusal; state = state })
+    (record { refusal = 0; state = taken state (resultsOf state tag value) (numberOf value); days = daysToldOf state tag value })
+    (record { refusal = refusal; state = state; days = noDays })
 
 -- what the lent places hold afterwards
 unfoldable pub placesOf : State → ℕ → List ℕ → List ℤ → List ℤ

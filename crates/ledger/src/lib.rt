@@ -9,6 +9,7 @@ pub mod states;
 use figures::Figures;
 use heads::Head;
 use numbers::DAYS_BACK;
+use numbers::DAYS_USED;
 use numbers::NUMBER_LENGTH;
 use numbers::WINDOW_SLOTS;
 
@@ -31,10 +32,11 @@ pub struct Opened {
     pub state: State,
 }
 
-// The answer of adding.
+// The answer of adding. The days are numbers back, nearest first; zeros of a refused call and of a point that is no consumer.
 pub struct Added {
     pub refusal: u32,
     pub state: State,
+    pub days: [u8; DAYS_USED],
 }
 
 // The answer of closing.
@@ -95,7 +97,11 @@ pub fn add(state: State, tag: u8, value: &[u8], places: &mut [i64]) -> Added
 {
     let refusal = adding::early_refusal(state, tag, value, places.len());
     if refusal != refusals::ACCEPTED {
-        return Added { refusal, state };
+        return Added {
+            refusal,
+            state,
+            days: [0; DAYS_USED],
+        };
     }
     let head = state.head;
     let marks = state.marks;
@@ -105,9 +111,11 @@ pub fn add(state: State, tag: u8, value: &[u8], places: &mut [i64]) -> Added
         return Added {
             refusal: refusals::TOO_FEW_DAYS,
             state,
+            days: [0; DAYS_USED],
         };
     }
     let found = answer.found;
+    let days = answer.days;
     figures::totals::put(places, found);
     let before = states::slot_totals(state);
     let sums = figures::totals::add_totals(before, found);
@@ -119,5 +127,6 @@ pub fn add(state: State, tag: u8, value: &[u8], places: &mut [i64]) -> Added
     Added {
         refusal: refusals::ACCEPTED,
         state: next,
+        days,
     }
 }

@@ -64,6 +64,20 @@ module _ (f : ℕ → ℕ) where
       let d = sum-drop days in
       omega (arith, d 0 (omega arith), d 1 (omega arith), d 2 (omega arith), d 3 (omega arith), sum-drop-end days 4 (omega arith))
 
+-- what agrees on each number of a run, or on each of some days
+module _ (f g : ℕ → ℕ) where
+  pub run-same : (i n : ℕ) → ((j : ℕ) → j < n → f (i + j) ≡ g (i + j)) → run f i n ≡ run g i n
+  unfolding run
+  run-same i zero h = refl
+  run-same i (suc n) h =
+      let first : f i ≡ g i = rw add-zero at (h 0 (omega arith)) in
+      rw (first, run-same (suc i) n (λ j l. rw (suc-add, ← add-suc) (h (suc j) (omega arith))))
+
+  pub days-same : (days : List ℕ) → ((i : ℕ) → i < length days → f (getD days i 0) ≡ g (getD days i 0)) → sum (map f days) ≡ sum (map g days)
+  unfolding sum
+  days-same [] h = refl
+  days-same (d ∷ days) h = rw (h 0 (omega arith), days-same days (λ i l. h (suc i) (omega arith)))
+
 -- six numbers, place by place
 pub six-places : (xs : List ℕ) → length xs ≡ 6
     → sum xs ≡ getD xs 0 0 + getD xs 1 0 + getD xs 2 0 + getD xs 3 0 + getD xs 4 0 + getD xs 5 0

@@ -1,6 +1,6 @@
--- A consumer whose value passed its tests, and its results by the answer of its baseline. Assumes nothing.
-use mathlib.Core.Path.{_≡_, sym, ap, _∙_}
-use mathlib.Core.Bool.{true, false, not}
+-- A consumer whose value passed its tests, and its results by the answers of the day choice and of the baseline. Assumes nothing.
+use mathlib.Core.Path.{_≡_, _∙_}
+use mathlib.Core.Bool.{true, false}
 use mathlib.Core.List.{List}
 use Prim.Native.Nat.{ℕ, _+_, _-_, _≤_}
 use native.Mathlib.Omega.{arith}
@@ -8,17 +8,19 @@ use lib.Dec.{leb}
 use lib.IntN.{pos}
 use lib.ListN.{length, take, drop, replicate, length-drop}
 use mir.Facts.{leb-yes}
-use borrow.Author.Tests.{not-true, not-false}
+use borrow.Author.Tests.{not-false}
 use Rattle.numbers.specs.Lists.{run}
+use Rattle.numbers.specs.Slots.{noDays}
 use Rattle.numbers.proofs.Parts.{rest-of}
 use Rattle.numbers.proofs.Refusals.{untold}
 use Rattle.calendar.specs.Dates.{isDate}
 use Rattle.readings.proofs.Sums.{run-within}
 use Rattle.choosing.specs.Choosing.{isFew}
-use Rattle.baseline.specs.Baseline.{chosenDays, baselineOn}
-use Rattle.choosing.specs.Days.{AtMost}
-use Rattle.baseline.specs.Consumers.{Tested, mostConsumerBaseline, baselinesOn}
-use Rattle.baseline.specs.declared.Baselines.{Baselines}
+use Rattle.choosing.specs.Days.{AtMost, choice}
+use Rattle.choosing.specs.declared.Chosen.{Chosen}
+use Rattle.choosing.proofs.Choices.{few-days, four-days}
+use Rattle.baseline.specs.Baseline.{chosenDays, baselineOn, baselinesOn}
+use Rattle.baseline.specs.Consumers.{Tested, mostConsumerBaseline}
 use Rattle.baseline.proofs.Bounds.{baseline-bound}
 use Rattle.heads.specs.Limits.{mostLoss, lowClass, extraHighClass}
 use Rattle.heads.specs.Heads.{testDay, counts, contentTests, contentRefusal}
@@ -49,34 +51,33 @@ module _ {h : Head} {marks v : List ℕ} (p : Passed h marks consumer v) where
         first = omega (arith, o .first-slot);
       }
 
-  -- by the answer of its baseline, for the count of the test day and the readings that it was given
-  module _ {test : ℕ} {answer : Baselines} (t : test ≡ testDay h)
-      (e : let readings = take (length v - consumerReadingsAt) (drop consumerReadingsAt v) in answer ≡ baselinesOn (chosenDays test marks readings (h .slot)) readings (h .slot)) where
-    is-answer : answer ≡ baselinesOn (daysOf h marks v) (drop consumerReadingsAt v) (h .slot)
-    is-answer = e ∙ rw (t, rest-of v consumerReadingsAt)
+  -- the readings, as they are handed on
+  abbrev pub Handed : List ℕ
+  Handed = take (length v - consumerReadingsAt) (drop consumerReadingsAt v)
 
-    flag : answer .enough ≡ not (isFew (daysOf h marks v))
-    unfolding baselinesOn
-    flag = ap (λ a. a .enough) is-answer
+  -- by the answer of the day choice, for the count of the test day
+  module _ {test : ℕ} {answer : Chosen} (t : test ≡ testDay h) (e : answer ≡ choice (chosenDays test marks Handed (h .slot))) where
+    is-choice : answer ≡ choice (daysOf h marks v)
+    is-choice = e ∙ rw (t, rest-of v consumerReadingsAt)
 
-    pub too-few : answer .enough ≡ false → foundOf h marks consumer v ≡ record { enough = false; found = replicate 6 (pos 0) }
+    pub too-few : answer .enough ≡ false → foundOf h marks consumer v ≡ record { enough = false; found = replicate 6 (pos 0); days = noDays }
     unfolding foundOf
-    too-few f = let q : isFew (daysOf h marks v) ≡ true = not-false _ (sym flag ∙ f) in rw q
+    too-few f = rw (few-days _ _ is-choice f)
 
-    module _ (f : answer .enough ≡ true) where
-      four : isFew (daysOf h marks v) ≡ false
-      four = not-true _ (sym flag ∙ f)
+    -- and by that of the baseline on its days
+    module _ (f : answer .enough ≡ true) {slots : List ℕ} (b : slots ≡ baselinesOn Handed (answer .days) (h .slot)) where
+      four : (isFew (daysOf h marks v) ≡ false) × (answer .days ≡ daysOf h marks v)
+      four = four-days _ _ is-choice f
 
-      on-days : answer .slots ≡ run (baselineOn (drop consumerReadingsAt v) (daysOf h marks v) (h .slot)) 0 6
-      unfolding baselinesOn
-      on-days = ap (λ a. a .slots) is-answer ∙ rw four
+      on-days : slots ≡ baselinesOn (drop consumerReadingsAt v) (daysOf h marks v) (h .slot)
+      on-days = b ∙ rw (rest-of v consumerReadingsAt, four .1)
 
-      pub baselines-small : AtMost mostConsumerBaseline (answer .slots)
+      pub baselines-small : AtMost mostConsumerBaseline slots
       baselines-small =
           rw on-days (run-within (baselineOn (drop consumerReadingsAt v) (daysOf h marks v) (h .slot)) mostConsumerBaseline 0 6
           λ j l. baseline-bound (testDay h) marks (drop consumerReadingsAt v) (h .slot) (tested .small) (tested .window .last) (0 + j))
 
       pub consumer-results : foundOf h marks consumer v
-          ≡ record { enough = true; found = run (consumerSlot (lossOf h v) (answer .slots) (drop consumerReadingsAt v) (h .slot)) 0 6 }
+          ≡ record { enough = true; found = run (consumerSlot (lossOf h v) slots (drop consumerReadingsAt v) (h .slot)) 0 6; days = answer .days }
       unfolding foundOf quotients run
-      consumer-results = rw (on-days, four)
+      consumer-results = rw (on-days, four .1, four .0)

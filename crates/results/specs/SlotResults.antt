@@ -1,4 +1,4 @@
--- Slot results (document 01, and CR 1): of a point's value six quotients, and each of them rounded.
+-- Slot results (document 01, and CR 1): of a point's value six quotients, and each of them rounded; the days that are told (CR 2).
 use mathlib.Core.Bool.{Bool, false}
 use mathlib.Core.List.{List, [], map}
 use Prim.Native.Nat.{ℕ, _+_, _*_, _-_}
@@ -6,7 +6,7 @@ use lib.IntN.{ℤ, pos, _-ℤ_, _*ℤ_}
 use lib.ListN.{getD}
 use Rattle.numbers.specs.Lists.{run}
 use Rattle.numbers.specs.Words.{word32}
-use Rattle.numbers.specs.Slots.{windowSlots}
+use Rattle.numbers.specs.Slots.{noDays, windowSlots}
 use Rattle.integers.specs.Integers.{floorDiv}
 use Rattle.readings.specs.Readings.{readingLength, reading, earlierUse}
 use Rattle.choosing.specs.Choosing.{isFew}
@@ -25,6 +25,13 @@ lacksDays h marks consumer value = isFew (daysOf h marks value)
 lacksDays h marks generator value = false
 lacksDays h marks mixedFiring value = false
 lacksDays h marks unknown value = false
+
+-- CR 2: 'the four chosen days as numbers back, 1 to 30, nearest first'; 'other point kinds give four zeros'
+abbrev pub daysTold : Head → List ℕ → Kind → List ℕ → List ℕ
+daysTold h marks consumer value = daysOf h marks value
+daysTold h marks generator value = noDays
+daysTold h marks mixedFiring value = noDays
+daysTold h marks unknown value = noDays
 
 -- A slot result before it is rounded: num ÷ den, in Wh.
 pub record Quotient : Type 0 where

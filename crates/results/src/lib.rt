@@ -4,7 +4,7 @@ ghost use Prim.Native.Nat.{_≤_};
 ghost use lib.ListN.{length};
 ghost use Rattle.numbers.specs.Lists.{run};
 ghost use Rattle.numbers.specs.Slots.{windowSlots};
-ghost use Rattle.readings.specs.Readings.{mostReading};
+ghost use Rattle.readings.specs.Readings.{mostReading, Back};
 ghost use Rattle.choosing.specs.Days.{AtMost};
 ghost use Rattle.baseline.specs.Consumers.{Tested, mostConsumerBaseline};
 ghost use Rattle.heads.specs.Limits.{mostLoss, mostBaseline, mostShare};
@@ -14,6 +14,7 @@ ghost use Rattle.results.specs.SlotResults.{generatorQuotients, mixedFir
 ghost use Rattle.results.specs.Steps.{Passed, consumerSlot, allFound, foundOf};
 use heads::Head;
 use numbers::DAYS_BACK;
+use numbers::DAYS_USED;
 use numbers::WINDOW_SLOTS;
 use points::BASELINE_AT;
 use points::CLASS_AT;
@@ -26,10 +27,12 @@ use points::MIXED_FIRING_READINGS_AT;
 use points::SHARE_AT;
 use readings::READING_LENGTH;
 
-// The six results, unless there are not four days.
+// The six results and, of a consumer, its four days; zeros where there are not four.
 pub struct Found {
     pub enough: bool,
     pub found: [i64; WINDOW_SLOTS],
+    // numbers back, nearest first
+    pub days: [u8; DAYS_USED],
 }
 
 // One slot of a consumer: multiplied without a sign and subtracted once, then divided.
@@ -79,7 +82,15 @@ fn consumer_results(
     found
 }
 
-// A consumer: its days and the baseline on them, then the results.
+// Days as they are told: a day back goes into a byte.
+fn day_bytes(days: [usize; DAYS_USED]) -> [u8; DAYS_USED]
+    requires { ⌜ Back days ⌝ }
+    ensures { λ r. ⌜ r ≡ days ⌝ }
+{
+    [days[0] as u8, days[1] as u8, days[2] as u8, days[3] as u8]
+}
+
+// A consumer: its days, the baseline on them, then the results.
 fn consumer_found(head: Head, marks: [u8; DAYS_BACK], value: &[u8]) -> Found
     requires { ⌜ Passed head marks consumer (now value) ⌝ }
     ensures { λ r. ⌜ r ≡ foundOf head marks consumer (now (value .entry)) ⌝ }
@@ -89,21 +100,25 @@ fn consumer_found(head: Head, marks: [u8; DAYS_BACK], value: &[u8]) -> Found
     let day = head.day;
     let test = calendar::day_count(year, month, day);
     let slot = head.slot as usize;
-    let on_days = baseline::consumer_baselines(test, marks, &value[CONSUMER_READINGS_AT..], slot);
-    let enough = on_days.enough;
+    let chosen = baseline::chosen_days(test, marks, &value[CONSUMER_READINGS_AT..], slot);
+    let enough = chosen.enough;
     if !enough {
         return Found {
             enough: false,
             found: [0; WINDOW_SLOTS],
+            days: [0; DAYS_USED],
         };
     }
-    let slots = on_days.slots;
+    let days = chosen.days;
+    let slots = baseline::baselines_on(&value[CONSUMER_READINGS_AT..], days, slot);
     let losses = head.losses;
     let loss = points::loss_of(losses, value[CLASS_AT]);
     let found = consumer_results(loss, slots, &value[CONSUMER_READINGS_AT..], slot);
+    let told = day_bytes(days);
     Found {
         enough: true,
         found,
+        days: told,
     }
 }
 
@@ -123,6 +138,7 @@ fn generator_found(value: &[u8]) -> Found
     Found {
         enough: true,
         found,
+        days: [0; DAYS_USED],
     }
 }
 
@@ -146,6 +162,7 @@ fn mixed_firing_found(value: &[u8]) -> Found
     Found {
         enough: true,
         found,
+        days: [0; DAYS_USED],
     }
 }
 
@@ -161,6 +178,7 @@ pub fn results_of(head: Head, marks: [u8; DAYS_BACK], tag: u8, value: &[u8]) -> 
         _ => Found {
             enough: false,
             found: [0; WINDOW_SLOTS],
+            days: [0; DAYS_USED],
         },
     }
 }

@@ -8,7 +8,7 @@ use Rattle.readings.proofs.Bounds.{window-sums-bound}
 use Rattle.choosing.specs.Days.{choice}
 use Rattle.choosing.proofs.Flags.{flags-filter}
 use Rattle.baseline.specs.Baseline.{chosenDays}
-use Rattle.baseline.proofs.Bounds.{chosen-days-few, choice-back}
+use Rattle.baseline.proofs.Bounds.{chosen-days-back, choice-back}
 use Rattle.baseline.proofs.chosen_days.Statement.{statement}
 use Rattle.baseline.proofs.chosen_days.Tie as tie
 
@@ -27,7 +27,7 @@ returns c =
     let found : c .choose .result ≡ choice (chosenDays (a .test) (a .marks) (a .readings .now) (a .slot))
     = c .choose .ensures ∙ rw (at-sums .window-sums .ensures, at-eligible .eligible-days .ensures, flags)
     in
-    (found, λ i. rw found (choice-back _ (chosen-days-few (a .test) (a .marks) (a .readings .now) (a .slot) .1) i))
+    (found, λ i. rw found (choice-back _ (chosen-days-back (a .test) (a .marks) (a .readings .now) (a .slot)) i))
 
 pub chosen-days-spec : {M : Type 1} → statement M
 chosen-days-spec =

@@ -6,10 +6,10 @@ use lib.ListN.{length}
 use borrow.Author.Needs.{needs}
 use Rattle.points.specs.Points.{kindOf}
 use Rattle.results.specs.SlotResults.{lacksDays}
+use Rattle.results.specs.declared.Found.{Found}
 use Rattle.ledger.specs.States.{taken}
-use Rattle.ledger.specs.Operations.{addingRefusal, resultsOf}
-use Rattle.ledger.proofs.Sound.{add-good}
-use Rattle.ledger.proofs.AddSteps.{days-lack, days-suffice, found-is, Early, early-told, early, places-good, refused}
+use Rattle.ledger.specs.Operations.{addingRefusal, resultsOf, daysToldOf}
+use Rattle.ledger.proofs.AddSteps.{days-lack, days-suffice, found-is, Early, early-told, early, took, places-good, refused}
 use Rattle.ledger.proofs.add.Statement.{statement}
 use Rattle.ledger.proofs.add.Tie as tie
 
@@ -29,11 +29,22 @@ module _ (c : tie.Else2) where
   enough : let a = start passed .args in lacksDays (a .state .head) (a .state .marks) (kindOf (a .tag)) (a .value .now) ≡ false
   enough = days-suffice _ _ _ _ (c .before .results-of .ensures) (c .if2 .left)
 
-  found : let a = start passed .args in c .before .results-of .result .found ≡ resultsOf (a .state) (a .tag) (a .value .now)
+  abbrev answer : Found
+  answer = c .before .results-of .result
+
+  found : let a = start passed .args in
+      (answer .found ≡ resultsOf (a .state) (a .tag) (a .value .now)) × (answer .days ≡ daysToldOf (a .state) (a .tag) (a .value .now))
   found = found-is _ _ (kindOf (start passed .args .tag)) _ (c .before .results-of .ensures) enough
 
   accepted : let a = start passed .args in addingRefusal (a .state) (a .tag) (a .value .now) (length (a .places .now)) ≡ 0
   accepted = facts passed .days ∙ simp enough
+
+-- with the answer's parts in hand
+abbrev enough-at : tie.After-put-arg → tie.Else2
+enough-at c = c .before .before .before
+
+abbrev totals-at : tie.After-add-totals → tie.After-put
+totals-at c = c .before .before .before
 
 returns : tie.Need-returns
 returns c =
@@ -53,18 +64,20 @@ returns-2 c =
 
 add-totals-requires : tie.Need-add-totals-requires
 add-totals-requires c κs =
-    let at = c .before .before .before .before .before in
-    λ i. rw (c .slot-totals .ensures, found at) (facts (passed at) .sums i)
+    let at = enough-at (c .before .before .before) in
+    λ i. rw (c .slot-totals .ensures, found at .0) (facts (passed at) .sums i)
 
 add-next : tie.Need-add-next
-add-next c = record { fits = facts (passed (c .before .before .before .before .before .before .before .before)) .next }
+add-next c = record { fits = facts (passed (enough-at (totals-at (c .before .before) .before))) .next }
 
 returns-3 : tie.Need-returns-3
 unfolding taken
 returns-3 c =
-    let at = c .before .before .before .before .before .before .before .before in (
-      rw (c .before .before .add-totals .ensures, c .before .before .before .slot-totals .ensures, c .before .number-of .ensures, found at) (sym (add-good _ _ _ _ (accepted at))),
-      c .before .before .before .before .before .put .ensures ∙ found at ∙ sym (places-good _ _ _ _ (accepted at)),
+    let at-totals = c .before .before in
+    let at-put = totals-at at-totals in
+    let at = enough-at (at-put .before) in (
+      rw (at-totals .add-totals .ensures, at-totals .before .slot-totals .ensures, c .before .number-of .ensures, found at .0) (took _ _ _ _ (accepted at) (found at .1)),
+      at-put .put .ensures ∙ found at .0 ∙ sym (places-good _ _ _ _ (accepted at)),
     )
 
 pub add-spec : {M : Type 1} → statement M
@@ -75,10 +88,10 @@ add-spec =
     returns
     results-of-requires
     returns-2
-    (λ c κs. facts (passed (c .before .before)) .given .six)
+    (λ c κs. facts (passed (enough-at c)) .given .six)
     (λ c κs. search needs)
     add-totals-requires
-    (λ c κs. facts (passed (c .before .before .before .before .before .before)) .numbered)
+    (λ c κs. facts (passed (enough-at (totals-at c .before))) .numbered)
     add-next
     (λ c. search needs)
     returns-3)
