@@ -36,8 +36,11 @@ pub fn opening() -> bool {
 fn answer_adding(state: State, tag: u8, value: &[u8], places: &mut [i64]) -> bool {
     let added = ledger::add(state, tag, value, places);
     let after = added.state;
-    let state_text = text::number(b"adding ", added.refusal as u64) & text::state(after);
-    text::line(state_text & text::signed_list(b" places", places))
+    let days = added.days;
+    let answer = text::number(b"adding ", added.refusal as u64)
+        & text::state(after)
+        & text::days(days);
+    text::line(answer & text::signed_list(b" places", places))
 }
 
 pub fn adding() -> bool {

@@ -4,6 +4,7 @@ use figures::Figures;
 use ledger::State;
 use libc::STDOUT_FILENO;
 use numbers::DAYS_BACK;
+use numbers::DAYS_USED;
 use numbers::NUMBER_LENGTH;
 use numbers::WINDOW_SLOTS;
 
@@ -78,6 +79,14 @@ fn totals(list: [i64; WINDOW_SLOTS]) -> bool {
 
 fn last(list: [u8; NUMBER_LENGTH]) -> bool {
     bytes(b" last ", &list)
+}
+
+// The four days that an adding tells.
+pub fn days(list: [u8; DAYS_USED]) -> bool {
+    number(b" days ", wide(list[0]))
+        & number(b" ", wide(list[1]))
+        & number(b" ", wide(list[2]))
+        & number(b" ", wide(list[3]))
 }
 
 fn losses(list: [u16; 3]) -> bool {

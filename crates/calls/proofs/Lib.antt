@@ -1,3 +1,4 @@
 pub mod Nine
 pub mod Totals
 pub mod Within
+pub mod Days

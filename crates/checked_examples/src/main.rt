@@ -1,8 +1,9 @@
-// Runs the checked examples of document 01, and some of CR 1, through the operations and prints each with the paper's value, or one
+// Runs the checked examples of document 01, and some of CR 1 and CR 2, through the operations and prints each with the paper's value, or one
 // worked out by hand, beside it.
 // Those with a star are proved too, of the definitions; here they are seen once in a running program.
 mod adding;
 mod closing;
+mod days;
 mod handed;
 mod opening;
 mod plants;
@@ -21,6 +22,7 @@ fn empty_book() {
 fn main() {
     opening::examples();
     adding::examples();
+    days::examples();
     plants::examples();
     closing::examples();
     empty_book();

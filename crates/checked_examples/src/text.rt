@@ -1,5 +1,6 @@
 // The text of an example's line.
 use libc::STDOUT_FILENO;
+use numbers::DAYS_USED;
 
 pub fn put(word: &[u8]) {
     io::write_all(STDOUT_FILENO, word);
@@ -29,6 +30,18 @@ pub fn results(list: &[i64]) {
         signed(list[i]);
         i += 1;
     }
+}
+
+fn day(back: u8) {
+    put(b" ");
+    number(back as u64);
+}
+
+pub fn days(four: [u8; DAYS_USED]) {
+    day(four[0]);
+    day(four[1]);
+    day(four[2]);
+    day(four[3]);
 }
 
 // The value that is due, with where it comes from, ends the line.

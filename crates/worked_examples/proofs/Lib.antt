@@ -1,4 +1,5 @@
 pub mod Examples
 pub mod ExampleM
 pub mod Sequences
+pub mod TellingDays
 pub mod WrongPrograms

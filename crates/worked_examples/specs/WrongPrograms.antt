@@ -7,10 +7,11 @@ use Prim.Native.Nat.{ℕ}
 use lib.Dec.{eqb}
 use lib.IntN.{ℤ, pos}
 use lib.ListN.{replicate}
+use Rattle.numbers.specs.Slots.{noDays}
 use Rattle.heads.specs.Heads.{headOf}
 use Rattle.points.specs.Points.{numberOf}
 use Rattle.ledger.specs.States.{taken}
-use Rattle.ledger.specs.Operations.{openOf, addingRefusal, resultsOf, closeOf}
+use Rattle.ledger.specs.Operations.{openOf, addingRefusal, resultsOf, daysToldOf, closeOf}
 use Rattle.calls.specs.Calls.{Call, adding, closing, Reply, accepted, closed, replyOf, program, pointsTaken}
 use Rattle.calls.specs.Totals.{Holds}
 use Rattle.ledger.specs.declared.State.{State}
@@ -27,8 +28,8 @@ unfoldable pub addBy : Summing → State → ℕ → List ℕ → ℕ → Added
 addBy summing state tag value places =
     let refusal = addingRefusal state tag value places in
     cond (eqb refusal 0)
-    (record { refusal = 0; state = taken state (summing state (resultsOf state tag value)) (numberOf value) })
-    (record { refusal = refusal; state = state })
+    (record { refusal = 0; state = taken state (summing state (resultsOf state tag value)) (numberOf value); days = daysToldOf state tag value })
+    (record { refusal = refusal; state = state; days = noDays })
 
 unfoldable pub repliesBy : Summing → State → List Call → List Reply
 repliesBy summing state [] = []
