@@ -15,7 +15,8 @@ use Rattle.choosing.specs.Choosing.{isFew}
 use Rattle.baseline.specs.Baseline.{chosenDays, daySums, baselineOn}
 use Rattle.choosing.specs.Days.{Rising, choice}
 use Rattle.baseline.specs.Consumers.{Sums, mostConsumerBaseline}
-use Rattle.choosing.proofs.Rising.{Few, some-rising, rising-far}
+use Rattle.choosing.proofs.SomeOf.{Few}
+use Rattle.choosing.proofs.Rising.{some-rising, rising-far}
 use Rattle.choosing.proofs.Flags.{flags-rising, flags-filter}
 use Rattle.choosing.proofs.Lowest.{chosen-few}
 

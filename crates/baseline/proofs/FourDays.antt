@@ -12,7 +12,8 @@ use Rattle.numbers.specs.Slots.{daysUsed, windowSlots}
 use Rattle.calendar.specs.Eligible.{isEligible}
 use Rattle.readings.specs.Readings.{reading, slotSum, slotSums, earlierSlot, earlierUse}
 use Rattle.readings.proofs.Sums.{run-same, days-same}
-use Rattle.choosing.proofs.Rising.{rising-at, rising-order, in-place, in-some, in-filter}
+use Rattle.choosing.proofs.SomeOf.{in-place, in-some, in-filter}
+use Rattle.choosing.proofs.Rising.{rising-at, rising-order}
 use Rattle.baseline.specs.Baseline.{chosenDays, daySums, baseline}
 use Rattle.baseline.specs.FourDays.{FourDays, ChosenAreFour, SameOn, OnTheseDays}
 use Rattle.baseline.proofs.Bounds.{chosen-days-few, chosen-days-rising}
@@ -23,12 +24,12 @@ chosen-are-four test marks readings s e =
     let rising = chosen-days-rising test marks readings s in
     let few = chosen-days-few test marks readings s in
     let most : length days ≤ daysUsed = few .0 in
-    let least : daysUsed ≤ length days = ltb-false _ _ e in
+    let least : daysUsed ≤ length days = ltb-false (length days) daysUsed e in
     record {
       four = omega arith;
       rise = λ i j h l. rising-order i j h (omega arith) rising;
       differ = λ i j h l q. omega (arith, rising-order i j h (omega arith) rising);
-      within = λ i l. let at = rising-at i (omega arith) rising in (omega arith, at .1);
+      within = λ i l. let at = rising-at i (omega arith) rising in (omega arith, omega arith);
       eligible = λ i l. in-filter (isEligible test marks) _ (in-some (few .1) (in-place days i (omega arith)));
     }
 
@@ -44,11 +45,14 @@ slots-same days readings others i h =
 module _ {days : List ℕ} {s : ℕ} {readings others : List ℕ} (same : SameOn days s readings others) where
   sums-same : daySums readings days s ≡ daySums others days s
   unfolding daySums
-  sums-same = rw (slots-same days readings others s (same .window), slots-same days readings others (earlierSlot s) (same .earlier))
+  sums-same =
+      let window = slots-same days readings others s λ d j h l. same .window d j (omega arith) (omega arith) in
+      let earlier = slots-same days readings others (earlierSlot s) λ d j h l. same .earlier d j (omega arith) (omega arith) in
+      rw (window, earlier)
 
   earlier-same : earlierUse readings s ≡ earlierUse others s
   unfolding earlierUse
-  earlier-same = ap sum (run-same (reading readings 0) (reading others 0) (earlierSlot s) windowSlots (same .test))
+  earlier-same = ap sum (run-same (reading readings 0) (reading others 0) (earlierSlot s) windowSlots λ j l. same .test j (omega arith))
 
 pub on-these-days : OnTheseDays
 on-these-days days s readings others same =

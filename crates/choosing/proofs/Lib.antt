@@ -1,3 +1,4 @@
+pub mod SomeOf
 pub mod Rising
 pub mod Flags
 pub mod Keeping

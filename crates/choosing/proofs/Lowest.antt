@@ -12,7 +12,8 @@ use borrow.Author.Tests.{le-leb, lt-leb, eq-eqb, ne-eqb, eqb-true, eqb-false}
 use Rattle.numbers.specs.Slots.{daysUsed}
 use Rattle.choosing.specs.Choosing.{roundDays, standing, lowest, used, chosen}
 use Rattle.choosing.specs.Days.{Rising}
-use Rattle.choosing.proofs.Rising.{SomeOf, stop, Few, some-all, some-some, some-filter, some-rising, In, here, there, without, without-length}
+use Rattle.choosing.proofs.SomeOf.{stop, Few, some-all, some-some, some-filter, In, here, there}
+use Rattle.choosing.proofs.Rising.{some-rising, without, without-length}
 use Rattle.choosing.proofs.Rounds.{standing-few}
 
 module _ (w : ℕ → ℕ) where

@@ -11,7 +11,7 @@ use lib.Seq.{take-at, drop-at, length-take-le}
 use borrow.Author.Tests.{eq-eqb, ne-eqb, lt-ltb, le-ltb, ltb-true, ltb-false, eqb-false}
 use Rattle.numbers.specs.Lists.{filter}
 use Rattle.choosing.specs.Choosing.{roundDays, round, walk, standing}
-use Rattle.choosing.proofs.Rising.{SomeOf, Few, some-all, some-some, some-filter, some-take, some-before}
+use Rattle.choosing.proofs.SomeOf.{SomeOf, Few, some-all, some-some, some-filter, some-take, some-before}
 
 -- a test that all pass, or not
 filter-all-or-less : (test : ℕ → Bool) (days : List ℕ) → (filter test days ≡ days) ⊎ (length (filter test days) < length days)
