@@ -28,7 +28,7 @@ chosen-are-four test marks readings s e =
     record {
       four = omega arith;
       rise = λ i j h l. rising-order i j h (omega arith) rising;
-      differ = λ i j h l q. omega (arith, rising-order i j h (omega arith) rising);
+      differ = λ i j h l q. omega (arith, rising-order i j (omega arith) (omega arith) rising);
       within = λ i l. let at = rising-at i (omega arith) rising in (omega arith, omega arith);
       eligible = λ i l. in-filter (isEligible test marks) _ (in-some (few .1) (in-place days i (omega arith)));
     }
