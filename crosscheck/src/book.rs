@@ -83,7 +83,8 @@ pub fn settle_fields(book: &[u8]) -> Result<SettledBook<'_>, Refusal> {
     while state.points < state.terms.head.count {
         let (tag, value) = unread.point()?;
         let mut results: SlotResults = [0; WINDOW_SLOTS];
-        state = where_accepted(add(&state, tag, value, &mut results))?;
+        let added = add(&state, tag, value, &mut results);
+        state = where_accepted((added.refusal, added.state))?;
         points.push((tag, value));
     }
     refuse_where(!unread.0.is_empty(), BYTES_AFTER_LAST_POINT)?;

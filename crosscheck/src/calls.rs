@@ -8,6 +8,7 @@ use crate::limits::*;
 use crate::refusals::Refusal;
 use crate::terms::{Head, Terms};
 use crate::writing::{write_head, write_point};
+use std::fmt::Display;
 
 /// Kind byte of an opening.
 pub const OPENING: u8 = 1;
@@ -128,9 +129,10 @@ impl Call {
                 value,
             } => {
                 let mut places = places.clone();
-                let (refusal, after) = add(state, *tag, value, &mut places);
-                let (after, places) = (state_text(&after), list_text(&places));
-                (refusal, format!("{after} places{places}"))
+                let added = add(state, *tag, value, &mut places);
+                let (after, days) = (state_text(&added.state), list_text(&added.days));
+                let places = list_text(&places);
+                (added.refusal, format!("{after} days{days} places{places}"))
             }
             Call::Closing { state } => {
                 let (refusal, figures) = close(state);
@@ -178,7 +180,7 @@ fn state_bytes(state: &State) -> Vec<u8> {
     bytes
 }
 
-fn list_text(numbers: &[i64]) -> String {
+fn list_text<Number: Display>(numbers: &[Number]) -> String {
     numbers.iter().map(|number| format!(" {number}")).collect()
 }
 

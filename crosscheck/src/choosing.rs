@@ -6,8 +6,12 @@ use std::cmp::Reverse;
 /// The window sums of the thirty days, day 1 back first.
 pub type WindowSums = [u64; DAYS_BACK];
 
-/// Four chosen days as numbers back, nearest first.
+/// Four chosen days as numbers back, 1 to 30, nearest first.
 pub type ChosenDays = [u8; CHOSEN_DAYS];
+
+/// The four zeros of a refused adding and of a point that has no baseline of
+/// four days (change request 2).
+pub const NO_DAYS: ChosenDays = [0; CHOSEN_DAYS];
 
 /// The window sum of a day back.
 fn window_sum(sums: &WindowSums, back: u8) -> u64 {
@@ -44,7 +48,8 @@ fn lowest_day(standing: &[u8], sums: &WindowSums) -> Option<u8> {
     standing.iter().copied().min_by_key(order)
 }
 
-/// The four chosen days, or none where fewer than four stand (rule 18).
+/// The four chosen days, or none where fewer than four stand (rule 18). They
+/// stand nearest first, as the walk leaves them.
 pub fn choose_days(eligible: &[u8], sums: &WindowSums) -> Option<ChosenDays> {
     let mut standing = standing_days(eligible, sums);
     if standing.len() == DAYS_OF_A_ROUND {

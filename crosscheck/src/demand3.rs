@@ -1,7 +1,7 @@
 //! Demand 3 of the mission: program and exact account, call by call.
 
 use crate::account::{parts_of_a_kw, Account, Divisions};
-use crate::ledger::{self, Figures, State};
+use crate::ledger::{self, Added, Figures, State};
 use crate::refusals::{Refusal, ACCEPTED};
 use crate::terms::Terms;
 
@@ -30,7 +30,7 @@ pub trait Program {
     /// Opening.
     fn open(&self, head: &[u8], calendar: &[u8]) -> (Refusal, State);
     /// Adding.
-    fn add(&self, state: &State, tag: u8, value: &[u8], places: &mut [i64]) -> (Refusal, State);
+    fn add(&self, state: &State, tag: u8, value: &[u8], places: &mut [i64]) -> Added;
     /// Closing.
     fn close(&self, state: &State) -> (Refusal, Figures);
 }
@@ -43,7 +43,7 @@ impl Program for Settlement {
         ledger::open(head, calendar)
     }
 
-    fn add(&self, state: &State, tag: u8, value: &[u8], places: &mut [i64]) -> (Refusal, State) {
+    fn add(&self, state: &State, tag: u8, value: &[u8], places: &mut [i64]) -> Added {
         ledger::add(state, tag, value, places)
     }
 
@@ -157,10 +157,10 @@ impl<'p, P: Program> Run<'p, P> {
 
     fn adding(&mut self, tag: u8, value: &[u8], places: usize) -> Result<(), &'static str> {
         let mut lent = vec![0; places];
-        let (number, state) = self.program.add(&self.state, tag, value, &mut lent);
+        let added = self.program.add(&self.state, tag, value, &mut lent);
         let taken = self.account.adding(tag, value, places);
-        accepted_alike(number, taken.is_some())?;
-        self.state = state;
+        accepted_alike(added.refusal, taken.is_some())?;
+        self.state = added.state;
         match (self.account.terms(), taken) {
             (Some(terms), Some(taken)) => {
                 self.divisions.take(terms, &taken);

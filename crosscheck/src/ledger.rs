@@ -1,6 +1,6 @@
 //! Opening, adding and closing ("Operations and their refusals").
 
-use crate::choosing::{choose_days, ChosenDays};
+use crate::choosing::{choose_days, ChosenDays, NO_DAYS};
 use crate::limits::*;
 use crate::point::{number_is_allowed, Consumer, Generator, MixedFiring, Point};
 use crate::refusals::*;
@@ -97,6 +97,17 @@ pub enum Taken<'a> {
     MixedFiring(MixedFiring<'a>),
 }
 
+impl Taken<'_> {
+    /// The days of its baseline: four zeros for any kind but a consumer.
+    pub fn days(&self) -> ChosenDays {
+        match self {
+            Taken::Consumer(_, days) => *days,
+            Taken::Generator(_) => NO_DAYS,
+            Taken::MixedFiring(_) => NO_DAYS,
+        }
+    }
+}
+
 /// Rules 10 to 18 of adding, in the paper's order; 50 stands at the place of 16.
 pub fn take_point<'a>(
     held: &Held,
@@ -148,25 +159,40 @@ pub fn open(head: &[u8], calendar: &[u8]) -> (Refusal, State) {
     }
 }
 
+/// The answer of adding.
+#[derive(Clone, Copy, Debug, PartialEq, Eq)]
+pub struct Added {
+    /// Its refusal.
+    pub refusal: Refusal,
+    /// The state with the point, or as it was given.
+    pub state: State,
+    /// The four days of the point's baseline, or four zeros.
+    pub days: ChosenDays,
+}
+
 /// Adding: takes a state, a tag, a value and lent places for the results.
-pub fn add(state: &State, tag: u8, value: &[u8], places: &mut [i64]) -> (Refusal, State) {
+pub fn add(state: &State, tag: u8, value: &[u8], places: &mut [i64]) -> Added {
     match accepted_adding(state, tag, value, places.len()) {
-        Ok((results, state)) => {
+        Ok((results, added)) => {
             places.copy_from_slice(&results);
-            (ACCEPTED, state)
+            added
         }
-        Err(refusal) => (refusal, *state),
+        Err(refusal) => Added {
+            refusal,
+            state: *state,
+            days: NO_DAYS,
+        },
     }
 }
 
-/// The results and the state of an accepted adding: rule 9, then those of
+/// The results and the answer of an accepted adding: rule 9, then those of
 /// [`take_point`].
 fn accepted_adding(
     state: &State,
     tag: u8,
     value: &[u8],
     places: usize,
-) -> Result<(SlotResults, State), Refusal> {
+) -> Result<(SlotResults, Added), Refusal> {
     state.check()?;
     let held = Held {
         terms: &state.terms,
@@ -175,7 +201,12 @@ fn accepted_adding(
     };
     let (taken, number) = take_point(&held, tag, value, places)?;
     let results = results_of(&state.terms, &taken);
-    Ok((results, state.with_point(number, &results)))
+    let added = Added {
+        refusal: ACCEPTED,
+        state: state.with_point(number, &results),
+        days: taken.days(),
+    };
+    Ok((results, added))
 }
 
 /// The closing figures, in the order of the whole book's result.

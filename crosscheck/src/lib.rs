@@ -1,8 +1,8 @@
 //! A separate settlement of the effectiveness test ledger.
 //!
-//! Written from document 01 and change request 1 alone, so that it can disagree
-//! with the product. Each module is one section of document 01; "rule N" means
-//! refusal N.
+//! Written from document 01 and change requests 1 and 2 alone, so that it can
+//! disagree with the product. Each module is one section of document 01; "rule
+//! N" means refusal N.
 
 #![forbid(unsafe_code)]
 #![warn(missing_docs)]

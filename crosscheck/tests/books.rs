@@ -361,7 +361,7 @@ fn the_values_handed_on_settle_to_the_same_figures() {
         let values = &settled.handed_on;
         let (_, mut state) = open(values.head, values.calendar);
         for (tag, value) in &values.points {
-            (_, state) = add(&state, *tag, value, &mut [0; 6]);
+            state = add(&state, *tag, value, &mut [0; 6]).state;
         }
         assert_eq!(state, settled.state);
         assert_eq!(close(&state), (0, settled.figures));

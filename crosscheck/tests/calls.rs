@@ -1,13 +1,14 @@
 //! The stored calls of the program call_vectors: what they cover, their form,
 //! and that the stored files are those made here.
 
+use settlement::books::examples::consumer_of_example_h;
 use settlement::books::fields::{
     raw_field, ConsumerFields, GeneratorFields, Head, MixedFiringFields,
 };
 use settlement::calls::vectors::stored_calls;
 use settlement::calls::{read_calls, Call, MOST_BYTES, MOST_PLACES, STATE_LENGTH};
 use settlement::choosing::standing_days;
-use settlement::ledger::{add, State};
+use settlement::ledger::{add, open, State};
 use settlement::limits::*;
 use settlement::point::Point;
 use settlement::slots::window_sums;
@@ -72,6 +73,44 @@ fn one_line_for_each_call() {
         assert_eq!(text.matches('\n').count(), 1);
         assert!(text.ends_with('\n') && text.is_ascii());
     }
+}
+
+/// The adding of example H, with the line of docs/VECTORS.md.
+#[test]
+fn the_line_of_an_accepted_consumer() {
+    let (_, state) = open(&Head::EXAMPLE_M.value(), &[0; 30]);
+    let call = Call::Adding {
+        state,
+        tag: 3,
+        places: vec![-1; 6],
+        value: consumer_of_example_h(1, 240).value(),
+    };
+    let zeros = "0".repeat(60);
+    let last = format!("{}31", "30".repeat(21));
+    let line = format!(
+        "adding 0 year 2024 month 8 day 7 slot 26 losses 700 400 200 contract 1000 count 1 \
+         marks {zeros} points 1 totals 1000 1000 1000 1000 1000 1000 last {last} \
+         days 1 2 5 6 places 1000 1000 1000 1000 1000 1000\n"
+    );
+    assert_eq!(call.answer(), (0, line));
+}
+
+/// A refused adding: the state as it was, four zeros, no place written.
+#[test]
+fn the_line_of_a_refused_consumer() {
+    let call = Call::Adding {
+        state: State::ZEROS,
+        tag: 3,
+        places: vec![],
+        value: consumer_of_example_h(1, 240).value(),
+    };
+    let line = format!(
+        "adding 9 year 0 month 0 day 0 slot 0 losses 0 0 0 contract 0 count 0 marks {} \
+         points 0 totals 0 0 0 0 0 0 last {} days 0 0 0 0 places\n",
+        "0".repeat(60),
+        "0".repeat(44)
+    );
+    assert_eq!(call.answer(), (9, line));
 }
 
 /// Each clause of refusal 9 that a state meets, by its name.
@@ -158,7 +197,7 @@ struct Shown {
 impl Shown {
     fn look_at(&mut self, state: &State, tag: u8, value: &[u8]) {
         let mut places = [0; WINDOW_SLOTS];
-        let (refusal, _) = add(state, tag, value, &mut places);
+        let refusal = add(state, tag, value, &mut places).refusal;
         let Ok(Point::Consumer(consumer)) = Point::cut(tag, value) else {
             return;
         };

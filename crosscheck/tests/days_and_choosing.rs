@@ -3,6 +3,7 @@
 mod common;
 
 use common::*;
+use settlement::books::fields::{ConsumerFields, PointFields};
 use settlement::books::lists;
 use settlement::books::random::Random;
 use settlement::choosing::choose_days;
@@ -126,6 +127,53 @@ fn choice_of_every_small_list() {
         }
     }
     assert!(refused > 10_000 && chosen > 100_000, "{refused} {chosen}");
+}
+
+/// The days that adding tells of a consumer with these window sums on the
+/// eligible days of example M's calendar; all days farther back are marked.
+fn days_by_adding(eligible: &[u8], of_days: &[u64]) -> Option<[u8; 4]> {
+    let mut list = list_of_count(1);
+    let mut consumer = ConsumerFields::flat(1, 1, 1_000_000);
+    list.marks = [2; 30];
+    for (back, sum) in eligible.iter().zip(of_days) {
+        list.marks[usize::from(*back) - 1] = 0;
+        consumer.set_window_sum(usize::from(*back), 26, *sum as u32);
+    }
+    let point = PointFields::Consumer(consumer);
+    let added = add_point(&opened(&list), &point);
+    let days = days_told(&opened(&list), &point);
+    assert_eq!(added.0, if days == [0; 4] { 18 } else { 0 });
+    (added.0 == 0).then_some(days)
+}
+
+#[test]
+fn adding_tells_the_choice_of_every_small_list() {
+    let eligible = [1, 5, 6, 14, 29, 30];
+    for length in 0..=6 {
+        for sums in every_list(length, &[0, 4, 5, 19, 100]) {
+            let chosen = choice(&eligible[..length], &sums);
+            assert_eq!(days_by_adding(&eligible[..length], &sums), chosen);
+        }
+    }
+}
+
+#[test]
+fn the_days_stand_nearest_first_whatever_their_sums() {
+    // Worked out by hand: the lowest goes, the order of the days stays.
+    let days = [1, 5, 6, 14, 30];
+    for (sums, due) in [
+        ([50, 40, 30, 20, 10], [1, 5, 6, 14]),
+        ([10, 20, 30, 40, 50], [5, 6, 14, 30]),
+        ([30, 50, 10, 40, 20], [1, 5, 14, 30]),
+        ([20, 10, 50, 30, 40], [1, 6, 14, 30]),
+        ([40, 30, 20, 10, 50], [1, 5, 6, 30]),
+    ] {
+        assert_eq!(days_by_adding(&days, &sums), Some(due));
+    }
+    assert_eq!(
+        days_by_adding(&[14, 15, 29, 30], &[9; 4]),
+        Some([14, 15, 29, 30])
+    );
 }
 
 #[test]

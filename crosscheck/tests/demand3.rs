@@ -11,7 +11,7 @@ use settlement::books::random::Random;
 use settlement::books::sequences::{adding, seeded_sequence, Sequence};
 use settlement::books::shortfalls::*;
 use settlement::demand3::{demand3, demand3_of, Breach, Call, Program, Seen, Settlement};
-use settlement::ledger::{self, Figures, State};
+use settlement::ledger::{self, Added, Figures, State};
 use std::collections::BTreeSet;
 
 const SEQUENCES: u64 = 60_000;
@@ -247,7 +247,7 @@ fn printed_less_exact(list: &List, calls: &[Call]) -> f64 {
     let mut account = Account::opening(&list.head.value(), &list.marks);
     for call in calls {
         if let Call::Adding { tag, value, .. } = call {
-            (_, state) = ledger::add(&state, *tag, value, &mut [0; 6]);
+            state = ledger::add(&state, *tag, value, &mut [0; 6]).state;
             account.adding(*tag, value, 6);
         }
     }
@@ -303,13 +303,12 @@ impl<F: Fn(&State, &State, &[i64]) -> State> Program for Altered<F> {
         ledger::open(head, calendar)
     }
 
-    fn add(&self, state: &State, tag: u8, value: &[u8], places: &mut [i64]) -> (u32, State) {
-        let (number, after) = ledger::add(state, tag, value, places);
-        if number == 0 {
-            (0, (self.0)(state, &after, places))
-        } else {
-            (number, after)
+    fn add(&self, state: &State, tag: u8, value: &[u8], places: &mut [i64]) -> Added {
+        let mut added = ledger::add(state, tag, value, places);
+        if added.refusal == 0 {
+            added.state = (self.0)(state, &added.state, places);
         }
+        added
     }
 
     fn close(&self, state: &State) -> (u32, Figures) {
@@ -404,7 +403,7 @@ impl Program for Closes {
         ledger::open(head, calendar)
     }
 
-    fn add(&self, state: &State, tag: u8, value: &[u8], places: &mut [i64]) -> (u32, State) {
+    fn add(&self, state: &State, tag: u8, value: &[u8], places: &mut [i64]) -> Added {
         ledger::add(state, tag, value, places)
     }
 
@@ -500,8 +499,12 @@ impl Program for Answers {
         ledger::open(head, calendar)
     }
 
-    fn add(&self, state: &State, _: u8, _: &[u8], _: &mut [i64]) -> (u32, State) {
-        (self.0, *state)
+    fn add(&self, state: &State, _: u8, _: &[u8], _: &mut [i64]) -> Added {
+        Added {
+            refusal: self.0,
+            state: *state,
+            days: [0; 4],
+        }
     }
 
     fn close(&self, state: &State) -> (u32, Figures) {
@@ -601,7 +604,7 @@ impl Program for Opens {
         (self.0, ledger::open(head, calendar).1)
     }
 
-    fn add(&self, state: &State, tag: u8, value: &[u8], places: &mut [i64]) -> (u32, State) {
+    fn add(&self, state: &State, tag: u8, value: &[u8], places: &mut [i64]) -> Added {
         ledger::add(state, tag, value, places)
     }
 

@@ -44,6 +44,7 @@ fn c_thirty_marks_of_1_give_18() {
     let (number, _, places) = add_point(&opened(&list), &level_consumer(1));
     assert_eq!(number, 18);
     assert_eq!(places, [UNWRITTEN; 6]);
+    assert_eq!(days_told(&opened(&list), &level_consumer(1)), [0; 4]);
 }
 
 #[test]
@@ -72,13 +73,60 @@ fn g_exactly_a_quarter_is_not_dropped() {
     assert!(dropped_in_round(&FIVE, &sums).is_empty());
 }
 
+/// The days told of a consumer field on 2024-08-07 with window sums for
+/// [`DAYS`], nearest first; any other day has a higher one.
+fn days_with_sums(of_days: &[u32]) -> [u8; 4] {
+    let mut consumer = ConsumerFields::flat(1, 2, 1_200);
+    for (back, sum) in DAYS.iter().zip(of_days) {
+        consumer.set_window_sum(usize::from(*back), 26, *sum);
+    }
+    days_told(&opened(&list_of_count(1)), &PointFields::Consumer(consumer))
+}
+
+/// The nearest five are days 1, 2, 5, 6, 7 back (B). D: the third, day 5, goes.
+/// E: the fifth is dropped, the sixth is day 8, of five equal ones it goes as
+/// the farthest. F and G: the fifth stays in the round and goes as the lowest.
+#[test]
+fn days_told_of_d_to_g() {
+    assert_eq!(days_with_sums(&[100, 90, 90, 120, 130, 500]), [1, 2, 6, 7]);
+    assert_eq!(days_with_sums(&[100, 100, 100, 100, 21, 100]), [1, 2, 5, 6]);
+    assert_eq!(days_with_sums(&[100, 100, 100, 100, 21, 101]), [1, 2, 5, 8]);
+    assert_eq!(days_with_sums(&[100, 100, 100, 100, 22, 101]), [1, 2, 5, 6]);
+    assert_eq!(days_with_sums(&[19, 19, 19, 19, 4, 19]), [1, 2, 5, 6]);
+}
+
+/// H to K on the other days of that week: the nearest five but the farthest.
+#[test]
+fn days_told_of_h_on_each_day_of_the_week() {
+    for (day, due) in [
+        (5, [3, 4, 5, 6]), // Monday: Friday to Tuesday
+        (6, [1, 4, 5, 6]),
+        (7, [1, 2, 5, 6]),
+        (8, [1, 2, 3, 6]),
+        (9, [1, 2, 3, 4]), // Friday: Thursday to Monday
+    ] {
+        let mut list = list_of_count(1);
+        list.head.day = day;
+        let point = PointFields::Consumer(consumer_of_example_h(1, 240));
+        assert_eq!(days_told(&opened(&list), &point), due);
+    }
+}
+
+#[test]
+fn days_told_of_m() {
+    let state = opened(&list_of_count(1));
+    assert_eq!(days_told(&state, &generator(1, 0, 550_000)), [0; 4]);
+}
+
 /// The six results of a consumer field on 2024-08-07, s 26, losses 700, 400,
-/// 200; they must all be the same.
+/// 200; they must all be the same. The readings of all days back are equal, so
+/// that of days 1, 2, 5, 6, 7 back the farthest goes.
 fn result_of(consumer: ConsumerFields) -> i64 {
     let point = PointFields::Consumer(consumer);
     assert_eq!(point.value().len(), 5_975);
     let (number, state, places) = add_point(&opened(&list_of_count(1)), &point);
-    assert_eq!(number, 0);
+    let days = days_told(&opened(&list_of_count(1)), &point);
+    assert_eq!((number, days), (0, [1, 2, 5, 6]));
     assert_eq!(state.totals, places);
     assert_eq!(places, [places[0]; 6]);
     places[0]

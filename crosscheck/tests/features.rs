@@ -154,7 +154,8 @@ fn look_at_walk(seen: &mut Seen, eligible: &[u8], sums: &WindowSums) {
 /// A point with the state before it; the state after it.
 fn look_at_point(seen: &mut Seen, state: &State, tag: u8, value: &[u8]) -> State {
     let mut results = [0; WINDOW_SLOTS];
-    let (refusal, after) = add(state, tag, value, &mut results);
+    let added = add(state, tag, value, &mut results);
+    let (refusal, after) = (added.refusal, added.state);
     let point = Point::cut(tag, value).unwrap();
     let mut few_days = false;
     let mut at_16 = 16;

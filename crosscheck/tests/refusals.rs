@@ -5,7 +5,7 @@ mod common;
 
 use common::*;
 use settlement::books::fields::*;
-use settlement::ledger::{add, close, open, Figures, State};
+use settlement::ledger::{add, close, open, Added, Figures, State};
 use settlement::terms::Terms;
 use settlement::writing::{write_head, write_point};
 
@@ -227,10 +227,15 @@ fn adding_of(point: PointFields) -> Adding {
     }
 }
 
-/// The answer of adding; a refused one must leave places and state alone.
+/// The answer of adding; a refused one must leave places and state alone, and
+/// only an accepted consumer has days to tell.
 fn answer_of_adding(adding: &Adding) -> u32 {
     let mut places = vec![UNWRITTEN; adding.places];
-    let (number, state) = add(&adding.state, adding.tag, &adding.value, &mut places);
+    let Added {
+        refusal: number,
+        state,
+        days,
+    } = add(&adding.state, adding.tag, &adding.value, &mut places);
     if number == 0 {
         assert_eq!(state.points, adding.state.points + 1);
         assert_eq!(state.last[..], adding.value[..22]);
@@ -238,9 +243,11 @@ fn answer_of_adding(adding: &Adding) -> u32 {
             assert_ne!(*result, UNWRITTEN);
             assert_eq!(state.totals[slot], adding.state.totals[slot] + result);
         }
+        assert_eq!(days == [0; 4], adding.tag != 3);
     } else {
         assert_eq!(state, adding.state);
         assert_eq!(places, vec![UNWRITTEN; adding.places]);
+        assert_eq!(days, [0; 4]);
     }
     number
 }

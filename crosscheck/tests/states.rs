@@ -5,7 +5,7 @@ mod common;
 use common::*;
 use settlement::books::random::Random;
 use settlement::books::states::{any_state, changed_state, given_state};
-use settlement::ledger::{add, close, open, Figures, State};
+use settlement::ledger::{add, close, open, Added, Figures, State};
 use settlement::terms::Terms;
 
 /// A state with two of two points taken, totals at 1,000.
@@ -19,11 +19,16 @@ fn full_state() -> State {
 fn told_9(state: &State) -> bool {
     let mut places = [UNWRITTEN; 6];
     let value = generator(1 << 70, 0, 1).value();
-    let (adding, after) = add(state, 4, &value, &mut places);
+    let Added {
+        refusal: adding,
+        state: after,
+        days,
+    } = add(state, 4, &value, &mut places);
     let (closing, figures) = close(state);
     assert_eq!(adding == 9, closing == 9, "{state:?}");
     if adding != 0 {
         assert_eq!((after, places), (*state, [UNWRITTEN; 6]));
+        assert_eq!(days, [0; 4]);
     }
     if closing != 0 {
         assert_eq!(figures, Figures::default());

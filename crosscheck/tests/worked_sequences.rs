@@ -29,9 +29,9 @@ fn worked(marks: u8, calls: &[(u32, Call)], parts: i128) -> (i64, i64, i64, i128
         let (refusal, accepted) = match call {
             None => (close(&state).0, account.closing().is_some()),
             Some((tag, value)) => {
-                let (refusal, next) = add(&state, tag, value, &mut places);
-                state = next;
-                (refusal, account.adding(tag, value, 6).is_some())
+                let added = add(&state, tag, value, &mut places);
+                state = added.state;
+                (added.refusal, account.adding(tag, value, 6).is_some())
             }
         };
         assert_eq!(refusal, expected);
@@ -114,7 +114,7 @@ fn with_plants() {
 fn slots_of_a_plant() {
     let (_, state) = open(&TWO_POINTS.value(), &[1; 30]);
     let mut places = [0; 6];
-    assert_eq!(add(&state, 5, &plant(1, 333, 6), &mut places).0, 0);
+    assert_eq!(add(&state, 5, &plant(1, 333, 6), &mut places).refusal, 0);
     assert_eq!(
         places,
         [66_701, 133_402, 200_102, 266_803, 333_504, 400_204]

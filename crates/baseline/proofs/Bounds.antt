@@ -2,18 +2,19 @@
 use mathlib.Core.Path.{_≡_}
 use mathlib.Core.Bool.{Bool, true, false, cond}
 use mathlib.Core.List.{List}
-use Prim.Native.Nat.{ℕ, zero, suc, _≤_}
+use Prim.Native.Nat.{ℕ, zero, suc, _+_, _≤_}
 use native.Mathlib.Omega.{arith}
 use lib.ListN.{length, replicate}
 use Rattle.numbers.specs.Lists.{run}
-use Rattle.numbers.specs.Slots.{daysBack, daysUsed, noDays}
+use Rattle.numbers.specs.Slots.{daysBack, daysUsed, noDays, windowSlots}
 use Rattle.numbers.proofs.Filling.{run-length}
 use Rattle.calendar.specs.Eligible.{ofDay, isEligible, eligibleDays}
 use Rattle.readings.specs.Readings.{readingCount, firstLarge, windowSums, lastWindow, earlierSlot, Back}
+use Rattle.readings.proofs.Sums.{run-within}
 use Rattle.readings.proofs.Bounds.{slot-sums-bound, earlier-use-bound}
 use Rattle.choosing.specs.Choosing.{isFew}
-use Rattle.baseline.specs.Baseline.{chosenDays, daySums, baselineOn}
-use Rattle.choosing.specs.Days.{Rising, choice}
+use Rattle.baseline.specs.Baseline.{chosenDays, daySums, baselineOn, baselinesOn}
+use Rattle.choosing.specs.Days.{AtMost, Rising, choice}
 use Rattle.baseline.specs.Consumers.{Sums, mostConsumerBaseline}
 use Rattle.choosing.proofs.SomeOf.{Few}
 use Rattle.choosing.proofs.Rising.{some-rising, rising-far}
@@ -44,11 +45,16 @@ module _ (test : ℕ) (marks readings : List ℕ) (s : ℕ) where
   pub chosen-days-back : Back (chosenDays test marks readings s)
   chosen-days-back i = rising-far i chosen-days-rising
 
-  pub baseline-bound : firstLarge readings readingCount ≡ readingCount → s ≤ lastWindow
+  baseline-bound : firstLarge readings readingCount ≡ readingCount → s ≤ lastWindow
       → (j : ℕ) → baselineOn readings (chosenDays test marks readings s) s j ≤ mostConsumerBaseline
   baseline-bound fits h j =
       let sums = day-sums-bound readings fits (chosenDays test marks readings s) (chosen-days-few .0) chosen-days-back s h in
       omega (arith, sums .window j, earlier-use-bound readings fits s h)
+
+  pub baselines-bound : firstLarge readings readingCount ≡ readingCount → s ≤ lastWindow
+      → AtMost mostConsumerBaseline (baselinesOn readings (chosenDays test marks readings s) s)
+  baselines-bound fits h =
+      run-within (baselineOn readings (chosenDays test marks readings s) s) mostConsumerBaseline 0 windowSlots (λ j l. baseline-bound fits h (0 + j))
 
 -- the answer's days too
 zeros-back : (n : ℕ) → Back (replicate n 0)

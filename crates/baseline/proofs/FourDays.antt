@@ -1,8 +1,7 @@
 -- The chosen days are four different eligible days that rise, and the baseline on some days takes nothing else of the days back. Assumes
 -- nothing.
 use mathlib.Core.Path.{_≡_, ap, _∙_}
-use mathlib.Core.Bool.{false}
-use mathlib.Core.List.{List, map}
+use mathlib.Core.List.{List}
 use Prim.Native.Nat.{ℕ, _+_, _<_, _≤_}
 use native.Mathlib.Omega.{arith}
 use lib.ListN.{length, getD}
@@ -15,7 +14,7 @@ use Rattle.readings.proofs.Sums.{run-same, days-same}
 use Rattle.choosing.proofs.SomeOf.{in-place, in-some, in-filter}
 use Rattle.choosing.proofs.Rising.{rising-at, rising-order}
 use Rattle.baseline.specs.Baseline.{chosenDays, daySums, baseline}
-use Rattle.baseline.specs.FourDays.{FourDays, ChosenAreFour, SameOn, OnTheseDays}
+use Rattle.baseline.specs.FourDays.{ChosenAreFour, SameOn, OnTheseDays}
 use Rattle.baseline.proofs.Bounds.{chosen-days-few, chosen-days-rising}
 
 pub chosen-are-four : ChosenAreFour

@@ -29,7 +29,7 @@ pub fn chosen_days(test: u32, marks: [u8; DAYS_BACK], readings: &[u8], slot: usi
     choose(eligible, &sums)
 }
 
-// Where the choice ends: six window sums and six earlier sums, each over the four days.
+// What the days become for the baseline: six window sums and six earlier sums, each over the four days.
 fn day_sums(readings: &[u8], days: [usize; DAYS_USED], slot: usize) -> [[u64; WINDOW_SLOTS]; 2]
     requires { ⌜ Tested (now readings) slot × Back days ⌝ }
     ensures { λ r. ⌜ r ≡ daySums (now (readings .entry)) days slot ⌝ }

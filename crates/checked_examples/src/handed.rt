@@ -112,6 +112,14 @@ pub fn put_consumer(value: &mut [u8], earlier: u32, used: u32)
     put_readings(&mut value[127..151], WINDOW_SLOTS, used);
 }
 
+// Other window readings of a consumer: 1,080 on day 2 back, 200 on day 6.
+pub fn put_low_days(value: &mut [u8])
+    requires { ⌜ length (now value) ≡ consumerLength ⌝ }
+{
+    put_readings(&mut value[511..535], WINDOW_SLOTS, 1080);
+    put_readings(&mut value[1279..1303], WINDOW_SLOTS, 200);
+}
+
 // A generator: its baseline in kW, the first reading and the same reading in the five other slots.
 pub fn put_generator(value: &mut [u8], baseline: u32, first: u32, others: u32)
     requires { ⌜ length (now value) ≡ generatorLength ⌝ }

@@ -1,5 +1,5 @@
-// Runs the checked examples of document 01, and some of CR 1 and CR 2, through the operations and prints each with the paper's value, or one
-// worked out by hand, beside it.
+// Runs the checked examples of document 01, and some of CR 1 and CR 2, through the operations and prints each with the paper's value,
+// or one worked out by hand, beside it.
 // Those with a star are proved too, of the definitions; here they are seen once in a running program.
 mod adding;
 mod closing;

@@ -90,7 +90,7 @@ pub fn close(state: State) -> Closed
     }
 }
 
-// Adding: a point's six results go to the lent places and into the slot totals.
+// Adding: a point's six results go to the lent places and into the slot totals; the days of a consumer go with the answer.
 pub fn add(state: State, tag: u8, value: &[u8], places: &mut [i64]) -> Added
     ensures answer { λ r. ⌜ r ≡ addOf state tag (now (value .entry)) (length (now (places .entry))) ⌝ }
     ensures lent { λ r. ⌜ now (places .exit) ≡ placesOf state tag (now (value .entry)) (now (places .entry)) ⌝ }

@@ -19,7 +19,7 @@ use Rattle.readings.specs.Readings.{mostReading, firstLarge}
 use Rattle.readings.proofs.Large.{none-large, first-bound}
 use Rattle.readings.proofs.Bounds.{reading-bound}
 use Rattle.baseline.specs.Consumers.{mostConsumerBaseline}
-use Rattle.baseline.proofs.Bounds.{baseline-bound}
+use Rattle.baseline.proofs.Bounds.{baselines-bound}
 use Rattle.heads.specs.Limits.{mostLoss, mostBaseline, mostShare, mostResult}
 use Rattle.heads.specs.Heads.{testDay}
 use Rattle.heads.proofs.Opening.{Opens}
@@ -92,7 +92,7 @@ module _ (h : Head) (marks value : List ℕ) where
       let readings = readingsOf consumer value in
       let tested = all-tested consumer value small in
       consumer-small (lossOf h value) _ _ (o .losses _)
-      (baseline-bound (testDay h) marks readings (h .slot) tested (omega (arith, o .last-slot)) (0 + j))
+      (baselines-bound (testDay h) marks readings (h .slot) tested (omega (arith, o .last-slot)) (0 + j))
       (reading-bound readings tested 0 (h .slot + (0 + j)) (omega arith) (omega arith))
 
   generators-small : SmallResults generator

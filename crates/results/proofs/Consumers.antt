@@ -1,12 +1,12 @@
 -- A consumer whose value passed its tests, and its results by the answers of the day choice and of the baseline. Assumes nothing.
-use mathlib.Core.Path.{_≡_, _∙_}
+use mathlib.Core.Path.{_≡_, sym, ap, _∙_}
 use mathlib.Core.Bool.{true, false}
 use mathlib.Core.List.{List}
 use Prim.Native.Nat.{ℕ, _+_, _-_, _≤_}
 use native.Mathlib.Omega.{arith}
 use lib.Dec.{leb}
 use lib.IntN.{pos}
-use lib.ListN.{length, take, drop, replicate, length-drop}
+use lib.ListN.{length, getD, take, drop, replicate, length-drop}
 use mir.Facts.{leb-yes}
 use borrow.Author.Tests.{not-false}
 use Rattle.numbers.specs.Lists.{run}
@@ -14,21 +14,22 @@ use Rattle.numbers.specs.Slots.{noDays}
 use Rattle.numbers.proofs.Parts.{rest-of}
 use Rattle.numbers.proofs.Refusals.{untold}
 use Rattle.calendar.specs.Dates.{isDate}
-use Rattle.readings.proofs.Sums.{run-within}
+use Rattle.readings.specs.Readings.{reading}
 use Rattle.choosing.specs.Choosing.{isFew}
 use Rattle.choosing.specs.Days.{AtMost, choice}
 use Rattle.choosing.specs.declared.Chosen.{Chosen}
 use Rattle.choosing.proofs.Choices.{few-days, four-days}
-use Rattle.baseline.specs.Baseline.{chosenDays, baselineOn, baselinesOn}
+use Rattle.baseline.specs.Baseline.{chosenDays, baselinesOn}
 use Rattle.baseline.specs.Consumers.{Tested, mostConsumerBaseline}
-use Rattle.baseline.proofs.Bounds.{baseline-bound}
+use Rattle.baseline.proofs.Bounds.{baselines-bound}
 use Rattle.heads.specs.Limits.{mostLoss, lowClass, extraHighClass}
 use Rattle.heads.specs.Heads.{testDay, counts, contentTests, contentRefusal}
 use Rattle.heads.specs.declared.Head.{Head}
 use Rattle.heads.proofs.Opening.{both, opens}
 use Rattle.points.specs.Points.{consumer, consumerReadingsAt, classOf}
-use Rattle.results.specs.SlotResults.{lossOf, daysOf, quotients}
+use Rattle.results.specs.SlotResults.{lossOf, daysOf, consumerQuotient, quotients, rounded, results}
 use Rattle.results.specs.Steps.{Passed, consumerSlot, foundOf}
+use Rattle.results.proofs.SlotResults.{map-run}
 use Rattle.results.proofs.Bounds.{all-tested}
 
 module _ {h : Head} {marks v : List ℕ} (p : Passed h marks consumer v) where
@@ -74,10 +75,18 @@ module _ {h : Head} {marks v : List ℕ} (p : Passed h marks consumer v) where
 
       pub baselines-small : AtMost mostConsumerBaseline slots
       baselines-small =
-          rw on-days (run-within (baselineOn (drop consumerReadingsAt v) (daysOf h marks v) (h .slot)) mostConsumerBaseline 0 6
-          λ j l. baseline-bound (testDay h) marks (drop consumerReadingsAt v) (h .slot) (tested .small) (tested .window .last) (0 + j))
+          rw on-days (baselines-bound (testDay h) marks (drop consumerReadingsAt v) (h .slot) (tested .small) (tested .window .last))
+
+      -- slot by slot, from these baselines
+      by-slots : results h marks consumer v ≡ run (consumerSlot (lossOf h v) slots (drop consumerReadingsAt v) (h .slot)) 0 6
+      unfolding quotients
+      by-slots =
+          let readings = drop consumerReadingsAt v in
+          let bases = baselinesOn readings (daysOf h marks v) (h .slot) in
+          map-run rounded (λ j. consumerQuotient (lossOf h v) (getD bases j 0) (reading readings 0 (h .slot + j))) 0 6
+          ∙ ap (λ bases. run (consumerSlot (lossOf h v) bases readings (h .slot)) 0 6) (sym on-days)
 
       pub consumer-results : foundOf h marks consumer v
           ≡ record { enough = true; found = run (consumerSlot (lossOf h v) slots (drop consumerReadingsAt v) (h .slot)) 0 6; days = answer .days }
-      unfolding foundOf quotients run
-      consumer-results = rw (on-days, four .1, four .0)
+      unfolding foundOf
+      consumer-results = rw (four .1, four .0, by-slots)

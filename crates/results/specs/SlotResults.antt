@@ -8,9 +8,9 @@ use Rattle.numbers.specs.Lists.{run}
 use Rattle.numbers.specs.Words.{word32}
 use Rattle.numbers.specs.Slots.{noDays, windowSlots}
 use Rattle.integers.specs.Integers.{floorDiv}
-use Rattle.readings.specs.Readings.{readingLength, reading, earlierUse}
+use Rattle.readings.specs.Readings.{readingLength, reading}
 use Rattle.choosing.specs.Choosing.{isFew}
-use Rattle.baseline.specs.Baseline.{chosenDays, daySums, baseline}
+use Rattle.baseline.specs.Baseline.{chosenDays, baselinesOn}
 use Rattle.heads.specs.Heads.{testDay}
 use Rattle.heads.specs.declared.Head.{Head}
 use Rattle.points.specs.Points.{Kind, consumer, generator, mixedFiring, unknown, classOf, baselineOf, shareOf, readingsOf}
@@ -54,13 +54,16 @@ mixedFiringQuotient share outside inside = record { num = pos ((outside + inside
 abbrev pub lossOf : Head → List ℕ → ℕ
 lossOf h value = getD (h .losses) (classOf value - 1) 0
 
--- the six slot results of a consumer before they are rounded, on the days chosen
-abbrev pub consumerQuotients : Head → List ℕ → List ℕ → List Quotient
-consumerQuotients h marks value =
+-- the six slot results of a consumer before they are rounded, by its baseline on some days
+abbrev pub consumerQuotientsOn : Head → List ℕ → List ℕ → List Quotient
+consumerQuotientsOn h value days =
     let readings = readingsOf consumer value in
-    let sums = daySums readings (daysOf h marks value) (h .slot) in
-    let earlier = earlierUse readings (h .slot) in
-    run (λ j. consumerQuotient (lossOf h value) (baseline sums earlier j) (reading readings 0 (h .slot + j))) 0 windowSlots
+    let bases = baselinesOn readings days (h .slot) in
+    run (λ j. consumerQuotient (lossOf h value) (getD bases j 0) (reading readings 0 (h .slot + j))) 0 windowSlots
+
+-- and on the days chosen
+abbrev pub consumerQuotients : Head → List ℕ → List ℕ → List Quotient
+consumerQuotients h marks value = consumerQuotientsOn h value (daysOf h marks value)
 
 -- those of a generator
 abbrev pub generatorQuotients : List ℕ → List Quotient

@@ -1,4 +1,4 @@
-// Slot results, by kind of point: the six results of a value that passed its tests.
+// Slot results, by kind of point: the six results of a value that passed its tests, and the days that are told.
 ghost use mathlib.Core.Path.{_≡_};
 ghost use Prim.Native.Nat.{_≤_};
 ghost use lib.ListN.{length};

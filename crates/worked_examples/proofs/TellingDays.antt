@@ -14,7 +14,8 @@ use Rattle.results.specs.SlotResults.{quotients}
 use Rattle.ledger.specs.States.{isUnsound}
 use Rattle.ledger.specs.Operations.{openOf, addingRefusal, addOf}
 use Rattle.worked_examples.specs.Examples.{plain, highVoltage}
-use Rattle.worked_examples.specs.TellingDays.{DayExamples, dayExamples, consumerDays, generatorDays, twoMarks}
+use Rattle.worked_examples.specs.Sequences.{generatorOf, mixedFiringOf, outsideTariff, insideTariff}
+use Rattle.worked_examples.specs.TellingDays.{DayExamples, dayExamples, consumerDays, twoMarks, unsoundDays, otherDays}
 
 no-marks : plain (consumerDays (replicate 30 0) 6) ≡ plain (0 ∷ 1 ∷ 2 ∷ 5 ∷ 6 ∷ [])
 unfolding run sum filter any gather bytesOf digits same isNumber below isDate dayCount firstLarge windowSums slotSums daySums earlierUse walk lowest used chosen headOf contentRefusal openingRefusal quotients isUnsound openOf addingRefusal addOf highVoltage consumerDays
@@ -32,10 +33,19 @@ five-places : plain (consumerDays (replicate 30 0) 5) ≡ plain (13 ∷ 0 ∷ 0 
 unfolding run sum filter any gather bytesOf digits same isNumber below isDate dayCount firstLarge windowSums slotSums daySums earlierUse walk lowest used chosen headOf contentRefusal openingRefusal quotients isUnsound openOf addingRefusal addOf highVoltage consumerDays
 five-places = refl
 
-a-generator : plain generatorDays ≡ plain (0 ∷ 0 ∷ 0 ∷ 0 ∷ 0 ∷ [])
-unfolding run sum filter any gather bytesOf digits same isNumber below isDate dayCount firstLarge windowSums slotSums daySums earlierUse walk lowest used chosen headOf contentRefusal openingRefusal quotients isUnsound openOf addingRefusal addOf highVoltage generatorDays
+unsound : plain unsoundDays ≡ plain (9 ∷ 0 ∷ 0 ∷ 0 ∷ 0 ∷ [])
+unfolding run sum filter any gather bytesOf digits same isNumber below isDate dayCount firstLarge windowSums slotSums daySums earlierUse walk lowest used chosen headOf contentRefusal openingRefusal quotients isUnsound openOf addingRefusal addOf highVoltage unsoundDays
+unsound = refl
+
+a-generator : plain (otherDays 4 (generatorOf 49 0 (replicate 6 1_200))) ≡ plain (0 ∷ 0 ∷ 0 ∷ 0 ∷ 0 ∷ [])
+unfolding run sum filter any gather bytesOf digits same isNumber below isDate dayCount firstLarge headOf contentRefusal openingRefusal quotients isUnsound openOf addingRefusal addOf otherDays
 a-generator = refl
+
+a-plant : plain (otherDays 5 (mixedFiringOf 49 333 outsideTariff insideTariff)) ≡ plain (0 ∷ 0 ∷ 0 ∷ 0 ∷ 0 ∷ [])
+unfolding run sum filter any gather bytesOf digits same isNumber below isDate dayCount firstLarge headOf contentRefusal openingRefusal quotients isUnsound openOf addingRefusal addOf otherDays
+a-plant = refl
 
 pub day-examples : DayExamples
 unfolding dayExamples
-day-examples = (no-marks, (marks-between, (all-marked, (five-places, (a-generator, tt)))))
+day-examples =
+    (no-marks, (marks-between, (all-marked, (five-places, (unsound, (a-generator, (a-plant, tt)))))))

@@ -10,9 +10,8 @@ use Rattle.numbers.specs.Lists.{run, gather}
 use Rattle.numbers.specs.Words.{bytesOf}
 use Rattle.calendar.specs.Dates.{dayCount}
 use Rattle.calendar.specs.Eligible.{ofDay, eligibleDays}
-use Rattle.readings.specs.Readings.{earlierUse}
 use Rattle.choosing.specs.Choosing.{standing, chosen}
-use Rattle.baseline.specs.Baseline.{baseline, daySums}
+use Rattle.baseline.specs.Baseline.{baselinesOn}
 use Rattle.heads.specs.Heads.{headOf}
 use Rattle.points.specs.Points.{consumer, readingsOf}
 use Rattle.results.specs.SlotResults.{daysOf}
@@ -62,7 +61,7 @@ baselinesWith earlier used =
     let value = highVoltage earlier used in
     let readings = readingsOf consumer value in
     let days = daysOf (headOf head) (replicate 30 0) value in
-    run (baseline (daySums readings days 26) (earlierUse readings 26)) 0 6
+    baselinesOn readings days 26
 
 -- the closing figures of a total
 abbrev pub figuresWith : ℤ → Figures

@@ -105,8 +105,8 @@ abbrev pub lastTooLarge : List ℕ
 lastTooLarge = 1 ∷ 2 ∷ 3 ∷ 4 ∷ 5 ∷ 1_000_000_001 ∷ []
 
 -- thirty marks of 1: such a plant needs no days
-abbrev pub noDays : List ℕ
-noDays = replicate 30 1
+abbrev pub allMarked : List ℕ
+allMarked = replicate 30 1
 
 -- A closing too early, a share above 1,000 with a reading above the limit, this reading alone, the plant with a share of 33.3 %, its number
 -- again with a share above 1,000, a plant that burns biomass alone, the closing.
@@ -125,7 +125,7 @@ plantCalls =
 -- the first slot would give 66,700.
 abbrev pub PlantSlots : Type 0
 PlantSlots =
-    placesOf (openOf twoPoints noDays .state) 5 (mixedFiringOf 49 333 outsideTariff insideTariff) (replicate 6 (pos 0))
+    placesOf (openOf twoPoints allMarked .state) 5 (mixedFiringOf 49 333 outsideTariff insideTariff) (replicate 6 (pos 0))
     ≡ map pos (66_701 ∷ 133_402 ∷ 200_102 ∷ 266_803 ∷ 333_504 ∷ 400_204 ∷ [])
 
 -- The total is 1,400,716, which is 466 × 3,000 and a rest; the shortfall is 1,000 − 466 = 534.
@@ -142,9 +142,9 @@ mW = 62_995_968_000_000
 abbrev pub WithPlants : Type 0
 WithPlants =
     let exact = 533 * kW + 93_997 * mW in
-    (program twoPoints noDays plantCalls
+    (program twoPoints allMarked plantCalls
     ≡ accepted ∷ refused 20 ∷ refused 50 ∷ refused 17 ∷ accepted ∷ refused 15 ∷ accepted ∷ closed plantFigures ∷ [])
-    × (account twoPoints noDays plantCalls
+    × (account twoPoints allMarked plantCalls
     ≡ Said.accepted ∷ Said.refused ∷ Said.refused ∷ Said.refused ∷ Said.accepted ∷ Said.refused ∷ Said.accepted ∷ Said.closed exact ∷ [])
     × (534 * kW ≡ exact + 906_003 * mW)
 

@@ -126,9 +126,10 @@ macro_rules! answers_of {
                 tag: u8,
                 value: &[u8],
                 places: &mut [i64],
-            ) -> (u32, $settlement::ledger::State) {
-                let (number, state) = $settlement::ledger::add(state, tag, value, places);
-                (self.0.number_told(number), state)
+            ) -> $settlement::ledger::Added {
+                let mut added = $settlement::ledger::add(state, tag, value, places);
+                added.refusal = self.0.number_told(added.refusal);
+                added
             }
 
             fn close(

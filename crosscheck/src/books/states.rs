@@ -21,7 +21,7 @@ pub fn given_state(random: &mut Random) -> State {
     let (_, mut state) = open(&list.head.value(), &list.marks);
     let taken = random.place(list.points.len() + 1);
     for point in &list.points[..taken] {
-        (_, state) = add(&state, point.tag(), &point.value(), &mut [0; WINDOW_SLOTS]);
+        state = add(&state, point.tag(), &point.value(), &mut [0; WINDOW_SLOTS]).state;
     }
     state
 }

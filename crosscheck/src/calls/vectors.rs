@@ -1,6 +1,7 @@
 //! The stored calls: boundary values of every field, faults in every
 //! combination, states that no call gave, and seeded lists call by call.
 
+mod days;
 mod plants;
 mod writing;
 
@@ -33,6 +34,7 @@ pub fn stored_calls() -> Vec<Call> {
         seeded_lists(),
         plants::plant_calls(),
         writing::writing_calls(),
+        days::day_calls(),
     ];
     parts.concat()
 }
@@ -108,12 +110,8 @@ fn closing(state: &State) -> Call {
 fn state_after(head: Head, marks: &[u8], generators: &[GeneratorFields]) -> State {
     let (_, mut state) = open(&head.value(), marks);
     for generator in generators {
-        (_, state) = add(
-            &state,
-            GENERATOR_TAG,
-            &generator.value(),
-            &mut [0; WINDOW_SLOTS],
-        );
+        let value = generator.value();
+        state = add(&state, GENERATOR_TAG, &value, &mut [0; WINDOW_SLOTS]).state;
     }
     state
 }
@@ -583,7 +581,7 @@ fn calls_of(list: &List) -> Vec<Call> {
     calls.push(closing(&state));
     for point in &list.points {
         calls.push(adding_point(&state, point));
-        (_, state) = add(&state, point.tag(), &point.value(), &mut [0; WINDOW_SLOTS]);
+        state = add(&state, point.tag(), &point.value(), &mut [0; WINDOW_SLOTS]).state;
     }
     calls.push(closing(&state));
     calls

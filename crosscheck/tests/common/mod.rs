@@ -18,8 +18,13 @@ pub fn opened(list: &List) -> State {
 /// Adds a point with six places; the answer, the state and the places.
 pub fn add_point(state: &State, point: &PointFields) -> (u32, State, [i64; 6]) {
     let mut places = [UNWRITTEN; 6];
-    let (number, state) = add(state, point.tag(), &point.value(), &mut places);
-    (number, state, places)
+    let added = add(state, point.tag(), &point.value(), &mut places);
+    (added.refusal, added.state, places)
+}
+
+/// The days that adding a point with six places tells.
+pub fn days_told(state: &State, point: &PointFields) -> [u8; 4] {
+    add(state, point.tag(), &point.value(), &mut [UNWRITTEN; 6]).days
 }
 
 /// A fraction in lowest terms with a positive denominator.
@@ -173,6 +178,16 @@ fn naive_consumer(list: &List, consumer: &mut ConsumerFields) -> Option<Vec<Frac
         .iter()
         .map(|&back| (back, sum(consumer.window(usize::from(back), first_slot))));
     let days = naive_choice(days.collect())?;
+    Some(naive_results_of_days(list, consumer, &days))
+}
+
+/// The exact slot results of a consumer in Wh, from four days back.
+pub fn naive_results_of_days(
+    list: &List,
+    consumer: &mut ConsumerFields,
+    days: &[u8],
+) -> Vec<Fraction> {
+    let first_slot = list.head.first_slot;
     let average = |consumer: &mut ConsumerFields, slot: usize| {
         let day = |&back: &u8| i128::from(*consumer.reading(usize::from(back), slot));
         Fraction::new(days.iter().map(day).sum(), 4)
@@ -190,7 +205,7 @@ fn naive_consumer(list: &List, consumer: &mut ConsumerFields) -> Option<Vec<Frac
         let usage = Fraction::whole(i128::from(*consumer.reading(0, slot)));
         results.push(baseline.minus(usage).times(10_000, 10_000 - loss));
     }
-    Some(results)
+    results
 }
 
 /// Example M's head with a count, no marks, no points.
