@@ -4,18 +4,17 @@ use mathlib.Core.Bool.{false}
 use mathlib.Core.List.{List, map}
 use Prim.Native.Nat.{ℕ}
 use native.Mathlib.Decide.{ℕ-discrete}
-use lib.IntN.{ℤ}
 use lib.ListN.{length}
 use Rattle.numbers.specs.Slots.{noDays}
 use Rattle.numbers.proofs.Refusals.{untold}
 use Rattle.baseline.specs.FourDays.{FourDays}
 use Rattle.baseline.proofs.FourDays.{chosen-are-four}
 use Rattle.heads.specs.Heads.{testDay}
-use Rattle.points.specs.Points.{consumer, kindOf, readingsOf, consumerTag}
+use Rattle.points.specs.Points.{consumer, readingsOf, consumerTag}
 use Rattle.points.proofs.PointKinds.{of-tag}
 use Rattle.results.specs.SlotResults.{daysOf, lacksDays, consumerQuotientsOn, quotients, rounded}
 use Rattle.results.proofs.SlotResults.{no-days}
-use Rattle.ledger.specs.Operations.{daysRow, addingRefusal, resultsOf, daysToldOf, addOf, placesOf}
+use Rattle.ledger.specs.Operations.{daysRow, addingRefusal, resultsOf, daysToldOf, addOf}
 use Rattle.ledger.specs.declared.State.{State}
 use Rattle.ledger.proofs.Sound.{add-refusal, add-good, add-bad}
 use Rattle.ledger.proofs.AddSteps.{accepted, places-good}

@@ -27,8 +27,9 @@ Summing = State → List ℤ → List ℤ
 unfoldable pub addBy : Summing → State → ℕ → List ℕ → ℕ → Added
 addBy summing state tag value places =
     let refusal = addingRefusal state tag value places in
+    let next = taken state (summing state (resultsOf state tag value)) (numberOf value) in
     cond (eqb refusal 0)
-    (record { refusal = 0; state = taken state (summing state (resultsOf state tag value)) (numberOf value); days = daysToldOf state tag value })
+    (record { refusal = 0; state = next; days = daysToldOf state tag value })
     (record { refusal = refusal; state = state; days = noDays })
 
 unfoldable pub repliesBy : Summing → State → List Call → List Reply
