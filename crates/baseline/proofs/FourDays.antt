@@ -2,19 +2,20 @@
 -- nothing.
 use mathlib.Core.Path.{_≡_, ap, _∙_}
 use mathlib.Core.List.{List}
-use Prim.Native.Nat.{ℕ, _+_, _<_, _≤_}
+use Prim.Native.Nat.{ℕ, _+_, _-_, _<_, _≤_}
 use native.Mathlib.Omega.{arith}
 use lib.ListN.{length, getD}
 use borrow.Author.Tests.{ltb-false}
 use Rattle.numbers.specs.Lists.{run, sum}
-use Rattle.numbers.specs.Slots.{daysUsed, windowSlots}
+use Rattle.numbers.specs.Slots.{daysBack, daysUsed, windowSlots}
+use Rattle.numbers.proofs.Filling.{run-from}
 use Rattle.calendar.specs.Eligible.{isEligible}
-use Rattle.readings.specs.Readings.{reading, slotSum, slotSums, earlierSlot, earlierUse}
+use Rattle.readings.specs.Readings.{reading, windowSum, windowSums, slotSum, slotSums, earlierSlot, earlierUse}
 use Rattle.readings.proofs.Sums.{run-same, days-same}
 use Rattle.choosing.proofs.SomeOf.{in-place, in-some, in-filter}
 use Rattle.choosing.proofs.Rising.{rising-at, rising-order}
 use Rattle.baseline.specs.Baseline.{chosenDays, daySums, baseline}
-use Rattle.baseline.specs.FourDays.{ChosenAreFour, SameOn, OnTheseDays}
+use Rattle.baseline.specs.FourDays.{ChosenAreFour, SumsOfDays, SameOn, OnTheseDays}
 use Rattle.baseline.proofs.Bounds.{chosen-days-few, chosen-days-rising}
 
 pub chosen-are-four : ChosenAreFour
@@ -31,6 +32,12 @@ chosen-are-four test marks readings s e =
       within = λ i l. let at = rising-at i (omega arith) rising in (omega arith, omega arith);
       eligible = λ i l. in-filter (isEligible test marks) _ (in-some (few .1) (in-place days i (omega arith)));
     }
+
+pub sums-of-days : SumsOfDays
+unfolding windowSums
+sums-of-days readings s k l h =
+    let same : 1 + (k - 1) ≡ k = omega arith in
+    run-from (windowSum readings s) 1 daysBack (k - 1) 0 (omega arith) ∙ ap (windowSum readings s) same
 
 -- six slots from slot i on, over some days
 slots-same : (days readings others : List ℕ) (i : ℕ)

@@ -6,8 +6,8 @@ use mathlib.Core.List.{List}
 use Prim.Native.Nat.{ℕ, _+_, _<_, _≤_}
 use lib.ListN.{length, getD}
 use Rattle.numbers.specs.Slots.{daysBack, daysUsed, windowSlots}
-use Rattle.calendar.specs.Eligible.{isEligible}
-use Rattle.readings.specs.Readings.{reading, earlierSlot}
+use Rattle.calendar.specs.Eligible.{ofDay, isEligible}
+use Rattle.readings.specs.Readings.{reading, windowSum, windowSums, earlierSlot}
 use Rattle.choosing.specs.Choosing.{isFew}
 use Rattle.baseline.specs.Baseline.{chosenDays, baselinesOn}
 
@@ -24,6 +24,10 @@ abbrev pub ChosenAreFour : Type 0
 ChosenAreFour = (test : ℕ) (marks readings : List ℕ) (s : ℕ)
     → isFew (chosenDays test marks readings s) ≡ false
     → FourDays test marks (chosenDays test marks readings s)
+
+-- and the sum by which day k is chosen is that of its own six window readings
+abbrev pub SumsOfDays : Type 0
+SumsOfDays = (readings : List ℕ) (s k : ℕ) → 1 ≤ k → k ≤ daysBack → ofDay (windowSums readings s) k ≡ windowSum readings s k
 
 -- readings that are the same in the test day's earlier slots and, on some days back, in the window and in the earlier slots
 pub record SameOn (days : List ℕ) (s : ℕ) (readings others : List ℕ) : Type 0 where

@@ -53,11 +53,11 @@ module _ {h : Head} {marks v : List ℕ} (p : Passed h marks consumer v) where
       }
 
   -- the readings, as they are handed on
-  abbrev pub Handed : List ℕ
-  Handed = take (length v - consumerReadingsAt) (drop consumerReadingsAt v)
+  abbrev pub handed : List ℕ
+  handed = take (length v - consumerReadingsAt) (drop consumerReadingsAt v)
 
   -- by the answer of the day choice, for the count of the test day
-  module _ {test : ℕ} {answer : Chosen} (t : test ≡ testDay h) (e : answer ≡ choice (chosenDays test marks Handed (h .slot))) where
+  module _ {test : ℕ} {answer : Chosen} (t : test ≡ testDay h) (e : answer ≡ choice (chosenDays test marks handed (h .slot))) where
     is-choice : answer ≡ choice (daysOf h marks v)
     is-choice = e ∙ rw (t, rest-of v consumerReadingsAt)
 
@@ -66,7 +66,7 @@ module _ {h : Head} {marks v : List ℕ} (p : Passed h marks consumer v) where
     too-few f = rw (few-days _ _ is-choice f)
 
     -- and by that of the baseline on its days
-    module _ (f : answer .enough ≡ true) {slots : List ℕ} (b : slots ≡ baselinesOn Handed (answer .days) (h .slot)) where
+    module _ (f : answer .enough ≡ true) {slots : List ℕ} (b : slots ≡ baselinesOn handed (answer .days) (h .slot)) where
       four : (isFew (daysOf h marks v) ≡ false) × (answer .days ≡ daysOf h marks v)
       four = four-days _ _ is-choice f
 
