@@ -37,9 +37,8 @@ fn answer_adding(state: State, tag: u8, value: &[u8], places: &mut [i64]) -> boo
     let added = ledger::add(state, tag, value, places);
     let after = added.state;
     let days = added.days;
-    let answer = text::number(b"adding ", added.refusal as u64)
-        & text::state(after)
-        & text::days(days);
+    let refusal = text::with_index(b"adding ", added.refusal, added.index);
+    let answer = refusal & text::state(after) & text::days(days);
     text::line(answer & text::signed_list(b" places", places))
 }
 
@@ -135,8 +134,9 @@ pub fn writing_head() -> bool {
 }
 
 fn answer_writing_point(tag: u8, value: &[u8], lent: &mut [u8]) -> bool {
-    let refusal = writing::write_point(tag, value, lent);
-    text::line(text::number(b"writing point ", refusal as u64) & text::lent(lent))
+    let answer = writing::write_point(tag, value, lent);
+    let refusal = text::with_index(b"writing point ", answer.number, answer.index);
+    text::line(refusal & text::lent(lent))
 }
 
 pub fn writing_point() -> bool {

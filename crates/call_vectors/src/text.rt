@@ -25,6 +25,11 @@ pub fn number(name: &[u8], value: u64) -> bool {
     put(name) & io::print_decimal(STDOUT_FILENO, value)
 }
 
+// A name, a refusal and the index of the reading that is told with it.
+pub fn with_index(name: &[u8], refusal: u32, index: u32) -> bool {
+    number(name, refusal as u64) & number(b" index ", index as u64)
+}
+
 // A name and a signed number.
 fn signed(name: &[u8], value: i64) -> bool {
     let size = integers::size_of(value);

@@ -2,3 +2,4 @@ pub mod Nine
 pub mod Totals
 pub mod Within
 pub mod Days
+pub mod TooLarge

@@ -9,6 +9,7 @@ use mir.Facts.{no-eqb}
 use Rattle.numbers.specs.Lists.{any}
 use Rattle.numbers.specs.Refusals.{firstOf}
 use Rattle.numbers.proofs.Tests.{noneOf, none-cons, none-append}
+use Rattle.numbers.proofs.NeverTold.{Without, never}
 use Rattle.calendar.specs.Dates.{isDate}
 use Rattle.heads.specs.Heads.{headOf, contentRefusal}
 use Rattle.points.specs.Points.{valueRows}
@@ -35,27 +36,21 @@ nothing-closed = rw nothing-unsound
 
 -- ---- of a sound state 9 is not told
 
-never-told : (n : ℕ) (table : List (Bool × ℕ)) → 0 < n → T (noneOf (λ row. eqb (row .1) n) table) → T (not (eqb (firstOf table) n))
-never-told n [] h t = no-eqb (λ (e : 0 ≡ n). omega arith)
-never-told n (row ∷ table) h t = go (row .0) (none-cons (λ row. eqb (row .1) n) row table .0 t) (never-told n table h)
-  where
-    go : (b : Bool) → T (not (eqb (row .1) n)) × T (noneOf (λ row. eqb (row .1) n) table)
-        → (T (noneOf (λ row. eqb (row .1) n) table) → T (not (eqb (firstOf table) n))) → T (not (eqb (cond b (row .1) (firstOf table)) n))
-    go true p f = p .0
-    go false p f = f (p .1)
+not-nine-in : (rows : List (Bool × ℕ)) → Without (λ n. eqb n 9) rows → T (not (eqb (firstOf rows) 9))
+not-nine-in rows t = rw (never (λ n. eqb n 9) rows refl t) tt
 
 module _ (state : State) (s : Sound state) where
   add-not-nine : (tag : ℕ) (value : List ℕ) (places : ℕ) → T (not (eqb (addOf state tag value places .refusal) 9))
   unfolding pointRefusal any
   add-not-nine tag value places =
       rw (add-refusal, adding-sound state s tag value places)
-      (never-told 9 (pointTests (state .head) (state .marks) (state .points) (state .last) tag value places) (omega arith)
+      (not-nine-in (pointTests (state .head) (state .marks) (state .points) (state .last) tag value places)
       (none-append (λ row. eqb (row .1) 9) (valueRows tag value) (daysRow (state .head) (state .marks) tag value) .1
       (values-above tag value 9 (omega arith), tt)))
 
   close-not-nine : T (not (eqb (closeOf state .refusal) 9))
   unfolding any
-  close-not-nine = rw (close-refusal, closing-sound state s) (never-told 9 (unreachedRow (state .head) (state .points)) (omega arith) tt)
+  close-not-nine = rw (close-refusal, closing-sound state s) (not-nine-in (unreachedRow (state .head) (state .points)) tt)
 
 -- ---- call by call
 

@@ -2,3 +2,4 @@ pub mod Calls
 pub mod Totals
 pub mod Within
 pub mod Days
+pub mod TooLarge

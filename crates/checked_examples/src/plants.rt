@@ -32,7 +32,7 @@ fn refusals() {
     text::paper(b"50");
     text::put(b"adding share 1000, readings 100001 and 1000000001:");
     put_answer(1000, 100001, 1000000001);
-    text::paper(b"17");
+    text::paper(b"51");
 }
 
 pub fn examples() {

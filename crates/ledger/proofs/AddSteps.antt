@@ -1,5 +1,5 @@
 -- Adding in steps: the early refusals, then the days. Assumes nothing.
-use mathlib.Core.Path.{_≡_, sym, _∙_}
+use mathlib.Core.Path.{_≡_, ap, sym, _∙_}
 use mathlib.Core.Bool.{true, false, not}
 use mathlib.Core.List.{List}
 use Prim.Native.Nat.{ℕ, _+_, _^_, _<_, _≤_}
@@ -13,7 +13,8 @@ use Rattle.numbers.specs.Refusals.{firstOf}
 use Rattle.numbers.proofs.Refusals.{untold, told, passed, both-accepted}
 use Rattle.heads.specs.declared.Head.{Head}
 use Rattle.heads.proofs.Opening.{opens}
-use Rattle.points.specs.Points.{Kind, kindOf, numberOf}
+use Rattle.points.specs.Points.{Kind, kindOf, numberOf, indexTold, withIndex}
+use Rattle.points.specs.declared.Refusal.{Refusal}
 use Rattle.points.proofs.PointKinds.{known-length, values-numbered}
 use Rattle.results.specs.SlotResults.{lacksDays, daysTold, results}
 use Rattle.results.specs.Steps.{foundOf}
@@ -54,7 +55,7 @@ pub record Early (state : State) (tag : ℕ) (value : List ℕ) (places : ℕ) :
   pub sums : (i : ℕ) → natAbs (getD (slotTotals state) i (pos 0)) + natAbs (getD (resultsOf state tag value) i (pos 0)) < 2 ^ 63
 
 module _ (state : State) (tag : ℕ) (value : List ℕ) (places : ℕ) where
-  pub early-told : (earlyRefusal state tag value places ≡ 0 → ⊥) → addingRefusal state tag value places ≡ earlyRefusal state tag value places
+  early-told : (earlyRefusal state tag value places ≡ 0 → ⊥) → addingRefusal state tag value places ≡ earlyRefusal state tag value places
   unfolding addingRefusal earlyRefusal
   early-told = told (earlyTests state tag value places) (daysRow (state .head) (state .marks) tag value)
 
@@ -80,7 +81,7 @@ module _ (state : State) (tag : ℕ) (value : List ℕ) (places : ℕ) where
 
   -- and then the answer has these days
   pub took : {days : List ℕ} → addingRefusal state tag value places ≡ 0 → days ≡ daysToldOf state tag value
-      → record { refusal = 0; state = taken state (resultsOf state tag value) (numberOf value); days = days } ≡ addOf state tag value places
+      → record { refusal = 0; state = taken state (resultsOf state tag value) (numberOf value); days = days; index = 0 } ≡ addOf state tag value places
   took e d = rw (d, add-good state tag value places e)
 
 -- ---- the lent places
@@ -90,8 +91,18 @@ module _ (state : State) (tag : ℕ) (value : List ℕ) (places : List ℤ) wher
   unfolding placesOf
   places-good e = simp (eq-eqb _ _ e)
 
-  -- a refused adding: the state and the places are as they were, and no days are told
-  pub refused : {n : ℕ} → addingRefusal state tag value (length places) ≡ n → (n ≡ 0 → ⊥)
-      → (record { refusal = n; state = state; days = noDays } ≡ addOf state tag value (length places)) × (places ≡ placesOf state tag value places)
+  -- a refused adding: the state and the places are as they were, no days are told, and the index of the refusal
+  pub refused : {n index : ℕ} → addingRefusal state tag value (length places) ≡ n → (n ≡ 0 → ⊥) → index ≡ indexTold n tag value
+      → (record { refusal = n; state = state; days = noDays; index = index } ≡ addOf state tag value (length places))
+      × (places ≡ placesOf state tag value places)
   unfolding placesOf
-  refused e h = (rw (add-bad state tag value (length places) (λ z. h (sym e ∙ z)), e), simp (ne-eqb _ _ (λ z. h (sym e ∙ z))))
+  refused e h i = (rw (add-bad state tag value (length places) (λ z. h (sym e ∙ z)), e, i), simp (ne-eqb _ _ (λ z. h (sym e ∙ z))))
+
+  -- by an early refusal
+  pub early-refused : {early : Refusal} → early ≡ withIndex (earlyRefusal state tag value (length places)) tag value → (early .number ≡ 0 → ⊥)
+      → (record { refusal = early .number; state = state; days = noDays; index = early .index } ≡ addOf state tag value (length places))
+      × (places ≡ placesOf state tag value places)
+  early-refused e h =
+      let number = ap (λ r. r .number) e in
+      let index = ap (λ r. r .index) e ∙ ap (λ n. indexTold n tag value) (sym number) in
+      refused (early-told state tag value (length places) (λ z. h (number ∙ z)) ∙ sym number) h index

@@ -15,7 +15,7 @@ use Rattle.numbers.specs.Slots.{noDays}
 use Rattle.numbers.specs.PointNumbers.{isNumber}
 use Rattle.heads.specs.Limits.{mostResult}
 use Rattle.heads.specs.Heads.{headOf, contentRefusal, openingRefusal}
-use Rattle.points.specs.Points.{numberOf}
+use Rattle.points.specs.Points.{numberOf, indexTold}
 use Rattle.ledger.specs.States.{opened, noState, slotTotals, isUnsound, taken}
 use Rattle.figures.specs.Figures.{figuresOf, noFigures}
 use Rattle.ledger.specs.Operations.{openOf, pointRefusal, addingRefusal, resultsOf, daysToldOf, addOf, closingRefusal, closeOf}
@@ -59,13 +59,14 @@ module _ (state : State) (tag : ℕ) (value : List ℕ) (places : ℕ) where
 
   pub add-good : addingRefusal state tag value places ≡ 0
       → addOf state tag value places
-      ≡ record { refusal = 0; state = taken state (resultsOf state tag value) (numberOf value); days = daysToldOf state tag value }
+      ≡ record { refusal = 0; state = taken state (resultsOf state tag value) (numberOf value); days = daysToldOf state tag value; index = 0 }
   unfolding addOf
   add-good e = simp (eq-eqb _ _ e)
 
-  -- a refused adding leaves the state and tells no days
+  -- a refused adding leaves the state, and tells no days and the index of its refusal
   pub add-bad : (addingRefusal state tag value places ≡ 0 → ⊥)
-      → addOf state tag value places ≡ record { refusal = addingRefusal state tag value places; state = state; days = noDays }
+      → let refusal = addingRefusal state tag value places in
+      addOf state tag value places ≡ record { refusal = refusal; state = state; days = noDays; index = indexTold refusal tag value }
   unfolding addOf
   add-bad n = simp (ne-eqb _ _ n)
 

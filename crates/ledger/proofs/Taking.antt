@@ -22,7 +22,7 @@ use Rattle.heads.proofs.Opening.{passed, Opens}
 use Rattle.results.proofs.Bounds.{isBeyond, none-beyond, small-by}
 use Rattle.ledger.specs.Operations.{beforeValue, givenTests, daysRow, pointRefusal}
 
--- what 10 to 17 and 50 show, where none of them is told
+-- what 10 to 16 and 50 to 52 show, where none of them is told
 pub record Given (h : Head) (points : ℕ) (kind : Kind) (value : List ℕ) (places : ℕ) : Type 0 where
   pub room : points < h .count
   pub known : isUnknown kind ≡ false

@@ -9,7 +9,7 @@ use Rattle.numbers.specs.Refusals.{firstOf}
 use Rattle.numbers.specs.Slots.{noDays, windowSlots}
 use Rattle.numbers.specs.PointNumbers.{below}
 use Rattle.heads.specs.Heads.{headOf, openingRefusal}
-use Rattle.points.specs.Points.{kindOf, numberOf, formRows, numberRow, valueRows}
+use Rattle.points.specs.Points.{kindOf, numberOf, formRows, numberRow, valueRows, indexTold}
 use Rattle.results.specs.SlotResults.{lacksDays, daysTold, results}
 use Rattle.ledger.specs.States.{opened, noState, slotTotals, isUnsound, taken}
 use Rattle.figures.specs.Figures.{figuresOf, noFigures}
@@ -61,19 +61,19 @@ beforeValue h points last tag value places =
     ++ placesRow places
     ++ numberRows points last (numberOf value)
 
--- 10 to 17, with 50 in the place of 16: what is told before the days are chosen
+-- 10 to 16, with 50 in the place of 16, 51 and 52 in that of 17: what is told before the days are chosen
 abbrev pub givenTests : Head → ℕ → List ℕ → ℕ → List ℕ → ℕ → List (Bool × ℕ)
 givenTests h points last tag value places = beforeValue h points last tag value places ++ valueRows tag value
 
--- 10 to 18, with 50 in the place of 16: the refusals other than 9, for the head and calendar, the points taken and the last number, and
--- what is given
+-- 10 to 18, so with 50, 51 and 52: the refusals other than 9, for the head and calendar, the points taken and the last number, and what
+-- is given
 abbrev pub pointTests : Head → List ℕ → ℕ → List ℕ → ℕ → List ℕ → ℕ → List (Bool × ℕ)
 pointTests h marks points last tag value places = givenTests h points last tag value places ++ daysRow h marks tag value
 
 unfoldable pub pointRefusal : Head → List ℕ → ℕ → List ℕ → ℕ → List ℕ → ℕ → ℕ
 pointRefusal h marks points last tag value places = firstOf (pointTests h marks points last tag value places)
 
--- 9 to 18, with 50 in the place of 16, for a tag, a value and the number of places lent
+-- 9 to 18, so with 50, 51 and 52, for a tag, a value and the number of places lent
 abbrev pub addingTests : State → ℕ → List ℕ → ℕ → List (Bool × ℕ)
 addingTests state tag value places =
     unsoundRow state ++ pointTests (state .head) (state .marks) (state .points) (state .last) tag value places
@@ -81,7 +81,7 @@ addingTests state tag value places =
 unfoldable pub addingRefusal : State → ℕ → List ℕ → ℕ → ℕ
 addingRefusal state tag value places = firstOf (addingTests state tag value places)
 
--- in the steps of the code: the state, 9 and 10, and all that comes before the days, 9 to 17 or 50
+-- in the steps of the code: the state, 9 and 10, and all that comes before the days
 abbrev pub stateRows : State → List (Bool × ℕ)
 stateRows state = unsoundRow state ++ reachedRow (state .head) (state .points)
 
@@ -100,13 +100,13 @@ resultsOf state tag value = results (state .head) (state .marks) (kindOf tag) va
 abbrev pub daysToldOf : State → ℕ → List ℕ → List ℕ
 daysToldOf state tag value = daysTold (state .head) (state .marks) (kindOf tag) value
 
--- the answer; CR 2: 'A refused call gives four zeros.'
+-- the answer; CR 2: 'A refused call gives four zeros.' CR 3: the index, which is 0 of an accepted call
 unfoldable pub addOf : State → ℕ → List ℕ → ℕ → Added
 addOf state tag value places =
     let refusal = addingRefusal state tag value places in
     cond (eqb refusal 0)
-    (record { refusal = 0; state = taken state (resultsOf state tag value) (numberOf value); days = daysToldOf state tag value })
-    (record { refusal = refusal; state = state; days = noDays })
+    (record { refusal = 0; state = taken state (resultsOf state tag value) (numberOf value); days = daysToldOf state tag value; index = 0 })
+    (record { refusal = refusal; state = state; days = noDays; index = indexTold refusal tag value })
 
 -- what the lent places hold afterwards
 unfoldable pub placesOf : State → ℕ → List ℕ → List ℤ → List ℤ

@@ -1,11 +1,13 @@
 // The refusals of adding, in the order in which they are told.
 ghost use mathlib.Core.Path.{_≡_};
 ghost use Rattle.numbers.specs.Refusals.{firstOf};
+ghost use Rattle.points.specs.Points.{withIndex};
 ghost use Rattle.ledger.specs.Operations.{numberRows, stateRows, earlyRefusal};
 use crate::State;
 use crate::states;
 use numbers::NUMBER_LENGTH;
 use numbers::WINDOW_SLOTS;
+use points::Refusal;
 
 // A number that is not allowed, or not above the last one; the first point has none before it.
 fn number_refusal(number: &[u8], points: u32, last: [u8; NUMBER_LENGTH]) -> u32
@@ -38,26 +40,35 @@ fn state_refusal(state: State) -> u32
     refusals::ACCEPTED
 }
 
-// 9 to 17, with 50 in the place of 16: all that is told before the days are chosen.
-pub fn early_refusal(state: State, tag: u8, value: &[u8], places: usize) -> u32
-    ensures { λ r. ⌜ r ≡ earlyRefusal state tag (now (value .entry)) places ⌝ }
+// 9 to 15, 16 or 50, 51 and 52: all that is told before the days are chosen, with the index of a reading.
+pub fn early_refusal(state: State, tag: u8, value: &[u8], places: usize) -> Refusal
+    ensures { λ r. ⌜ r ≡ withIndex (earlyRefusal state tag (now (value .entry)) places) tag (now (value .entry)) ⌝ }
 {
     let unsound = state_refusal(state);
     if unsound != refusals::ACCEPTED {
-        return unsound;
+        return Refusal {
+            number: unsound,
+            index: 0,
+        };
     }
     let form = points::form_refusal(tag, value.len());
     if form != refusals::ACCEPTED {
-        return form;
+        return Refusal {
+            number: form,
+            index: 0,
+        };
     }
     if places != WINDOW_SLOTS {
-        return refusals::NOT_SIX_PLACES;
+        return Refusal {
+            number: refusals::NOT_SIX_PLACES,
+            index: 0,
+        };
     }
     let points = state.points;
     let last = state.last;
     let number = number_refusal(&value[0..NUMBER_LENGTH], points, last);
     if number != refusals::ACCEPTED {
-        return number;
+        return Refusal { number, index: 0 };
     }
     points::value_refusal(tag, value)
 }

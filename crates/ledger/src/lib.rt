@@ -32,11 +32,13 @@ pub struct Opened {
     pub state: State,
 }
 
-// The answer of adding. The days are numbers back, nearest first; zeros of a refused call and of a point that is no consumer.
+// The answer of adding. The days are numbers back, nearest first; zeros of a refused call and of a point that is no consumer. The index
+// is that of the reading which is too large; 0 of every other answer.
 pub struct Added {
     pub refusal: u32,
     pub state: State,
     pub days: [u8; DAYS_USED],
+    pub index: u32,
 }
 
 // The answer of closing.
@@ -95,12 +97,14 @@ pub fn add(state: State, tag: u8, value: &[u8], places: &mut [i64]) -> Added
     ensures answer { λ r. ⌜ r ≡ addOf state tag (now (value .entry)) (length (now (places .entry))) ⌝ }
     ensures lent { λ r. ⌜ now (places .exit) ≡ placesOf state tag (now (value .entry)) (now (places .entry)) ⌝ }
 {
-    let refusal = adding::early_refusal(state, tag, value, places.len());
+    let early = adding::early_refusal(state, tag, value, places.len());
+    let refusal = early.number;
     if refusal != refusals::ACCEPTED {
         return Added {
             refusal,
             state,
             days: [0; DAYS_USED],
+            index: early.index,
         };
     }
     let head = state.head;
@@ -112,6 +116,7 @@ pub fn add(state: State, tag: u8, value: &[u8], places: &mut [i64]) -> Added
             refusal: refusals::TOO_FEW_DAYS,
             state,
             days: [0; DAYS_USED],
+            index: 0,
         };
     }
     let found = answer.found;
@@ -128,5 +133,6 @@ pub fn add(state: State, tag: u8, value: &[u8], places: &mut [i64]) -> Added
         refusal: refusals::ACCEPTED,
         state: next,
         days,
+        index: 0,
     }
 }

@@ -1,1 +1,3 @@
 pub mod PointKinds
+pub mod Indexes
+pub mod TooLarge

@@ -1,6 +1,6 @@
 -- Kinds of point by their tags, and what a point of the right form or with allowed values shows. Assumes nothing.
 use mathlib.Core.Path.{_≡_, refl, ap}
-use mathlib.Core.Bool.{true, false}
+use mathlib.Core.Bool.{Bool, true, false, cond, _&&_, _||_}
 use mathlib.Core.List.{List}
 use Prim.Native.Nat.{ℕ, _+_, _*_, _≤_, _<_}
 use native.Mathlib.Omega.{arith}
@@ -12,9 +12,10 @@ use Rattle.numbers.specs.Refusals.{firstOf}
 use Rattle.numbers.proofs.Refusals.{numbered, clear, untold}
 use Rattle.numbers.proofs.Tests.{noneOf}
 use Rattle.numbers.specs.PointNumbers.{numberLength}
+use Rattle.numbers.specs.Slots.{slotsOfDay}
 use Rattle.readings.specs.Readings.{readingLength}
 use Rattle.points.specs.Points.{consumerTag, generatorTag, mixedFiringTag, consumerLength, Kind, consumer, generator, mixedFiring, unknown, kindOf}
-use Rattle.points.specs.Points.{isUnknown, sizeOf, readingsAt, readingsIn, isUnfit, hasLarge, unfitNumber, formRows, valueRows}
+use Rattle.points.specs.Points.{isUnknown, sizeOf, readingsAt, readingsIn, isUnfit, largeAt, hasLarge, unfitNumber, largeNumber, isOfReading, formRows, unfitRow, valueRows}
 
 module _ (tag : ℕ) where
   -- the kind of a tag that is some number: at the number of a kind it computes
@@ -55,6 +56,37 @@ unfit-above generator = omega arith
 unfit-above mixedFiring = omega arith
 unfit-above unknown = omega arith
 
+-- numbers about a reading: those that are told, and the one that was
+abbrev pub isAboutReading : ℕ → Bool
+isAboutReading n = isOfReading n || eqb n 17
+
+-- an unfit value has none of them
+pub unfit-other : (kind : Kind) → isAboutReading (unfitNumber kind) ≡ false
+unfit-other consumer = refl
+unfit-other generator = refl
+unfit-other mixedFiring = refl
+unfit-other unknown = refl
+
+-- that of a large reading is 51 or 52
+pub large-number : (kind : Kind) (index : ℕ) → (50 < largeNumber kind index) × (isOfReading (largeNumber kind index) ≡ true)
+large-number consumer index = go (ltb index slotsOfDay)
+  where
+    go : (test-day : Bool) → (50 < cond test-day 51 52) × (isOfReading (cond test-day 51 52) ≡ true)
+    go true = (omega arith, refl)
+    go false = (omega arith, refl)
+large-number generator index = (omega arith, refl)
+large-number mixedFiring index = (omega arith, refl)
+large-number unknown index = (omega arith, refl)
+
+-- 51 where it is no consumer's
+pub large-other : (tag index : ℕ) → (tag ≡ consumerTag → ⊥) → largeNumber (kindOf tag) index ≡ 51
+large-other tag index n = rw (ne-eqb tag consumerTag n) (go (eqb tag generatorTag) (eqb tag mixedFiringTag))
+  where
+    go : (a b : Bool) → largeNumber (cond a generator (cond b mixedFiring unknown)) index ≡ 51
+    go true b = refl
+    go false true = refl
+    go false false = refl
+
 -- ---- a point of the right form
 
 module _ (tag size : ℕ) (form : firstOf (formRows tag size) ≡ 0) where
@@ -68,17 +100,29 @@ module _ (tag size : ℕ) (form : firstOf (formRows tag size) ≡ 0) where
 -- ---- a point with allowed values
 
 module _ (tag : ℕ) (value : List ℕ) where
-  -- no row of the value has the number 0
+  abbrev unfit : ℕ
+  unfit = unfitNumber (kindOf tag)
+
+  abbrev large : ℕ
+  large = largeNumber (kindOf tag) (largeAt (kindOf tag) value)
+
+  -- the numbers of the rows of a value are above those of the rows before it
+  rows-above : (15 < unfit) × (15 < large)
+  rows-above = (unfit-above (kindOf tag), omega (arith, large-number (kindOf tag) (largeAt (kindOf tag) value) .0))
+
+  -- none of them is 0
+  pub unfit-numbered : T (numbered (unfitRow tag value))
+  unfit-numbered = yes-and (ltb 0 unfit) true (lt→ltb 0 unfit (omega (arith, rows-above .0))) tt
+
   pub values-numbered : T (numbered (valueRows tag value))
   values-numbered =
-      let number = unfitNumber (kindOf tag) in
-      yes-and (ltb 0 number) true (lt→ltb 0 number (omega (arith, unfit-above (kindOf tag)))) tt
+      yes-and (ltb 0 unfit) (ltb 0 large && true) (lt→ltb 0 unfit (omega (arith, rows-above .0)))
+      (yes-and (ltb 0 large) true (lt→ltb 0 large (omega (arith, rows-above .1))) tt)
 
   -- nor that of a row before it
   pub values-above : (n : ℕ) → n ≤ 15 → T (noneOf (λ row. eqb (row .1) n) (valueRows tag value))
   unfolding any
-  values-above n h =
-      rw (ne-eqb (unfitNumber (kindOf tag)) n (λ e. omega (arith, unfit-above (kindOf tag))), ne-eqb 17 n (λ e. omega arith)) tt
+  values-above n h = rw (ne-eqb unfit n (λ e. omega (arith, rows-above .0)), ne-eqb large n (λ e. omega (arith, rows-above .1))) tt
 
   module _ (accepted : firstOf (valueRows tag value) ≡ 0) where
     pub fits : isUnfit (kindOf tag) value ≡ false

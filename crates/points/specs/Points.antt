@@ -1,14 +1,15 @@
--- Points (document 01, 'The test book', and CR 1): consumers, tag 3, generators, tag 4, and mixed-firing biomass plants, tag 5.
-use mathlib.Core.Bool.{Bool, true, false, cond, not, _&&_}
+-- Points (document 01, 'The test book', CR 1 and CR 3): consumers, tag 3, generators, tag 4, and mixed-firing biomass plants, tag 5.
+use mathlib.Core.Bool.{Bool, true, false, cond, not, _&&_, _||_}
 use mathlib.Core.List.{List, [], _∷_, _++_}
 use Prim.Native.Nat.{ℕ, _+_, _*_}
 use lib.Dec.{leb, ltb, eqb}
 use lib.ListN.{getD, take, drop}
 use Rattle.numbers.specs.Words.{word16, word32}
 use Rattle.numbers.specs.PointNumbers.{numberLength, isNumber}
-use Rattle.numbers.specs.Slots.{windowSlots}
+use Rattle.numbers.specs.Slots.{slotsOfDay, windowSlots}
 use Rattle.readings.specs.Readings.{readingCount, firstLarge}
 use Rattle.heads.specs.Limits.{lowClass, extraHighClass, mostBaseline, mostShare}
+use Rattle.points.specs.declared.Refusal.{Refusal}
 
 -- a point: its tag and its value
 pub record Point : Type 0 where
@@ -117,9 +118,14 @@ isUnfit generator value = ltb mostBaseline (baselineOf value)
 isUnfit mixedFiring value = ltb mostShare (shareOf value)
 isUnfit unknown value = false
 
+-- CR 3: 'the index of the first reading concerned, counted from 0 in the order of the field', or the number of readings where none is
+-- above the limit
+abbrev pub largeAt : Kind → List ℕ → ℕ
+largeAt kind value = firstLarge (readingsOf kind value) (readingsIn kind)
+
 -- a reading above the limit
 abbrev pub hasLarge : Kind → List ℕ → Bool
-hasLarge kind value = ltb (firstLarge (readingsOf kind value) (readingsIn kind)) (readingsIn kind)
+hasLarge kind value = ltb (largeAt kind value) (readingsIn kind)
 
 -- THE ROWS that a point's tag and value alone decide: adding's table and that of writing are joined from them.
 
@@ -159,10 +165,31 @@ shareRow share = (ltb mostShare share, unfitNumber mixedFiring) ∷ []
 abbrev pub unfitRow : ℕ → List ℕ → List (Bool × ℕ)
 unfitRow tag value = (isUnfit (kindOf tag) value, unfitNumber (kindOf tag)) ∷ []
 
--- 17: 'any reading above 1,000,000,000, used or not'
+-- 17: 'any reading above 1,000,000,000, used or not'; CR 3: '51, test day or generating point; 52, days back; both at the place of 17,
+-- which is no longer given', by the index of the first such reading. That of a tag of no point is never told.
+abbrev pub largeNumber : Kind → ℕ → ℕ
+largeNumber consumer index = cond (ltb index slotsOfDay) 51 52
+largeNumber generator index = 51
+largeNumber mixedFiring index = 51
+largeNumber unknown index = 51
+
 abbrev pub largeRow : ℕ → List ℕ → List (Bool × ℕ)
-largeRow tag value = (hasLarge (kindOf tag) value, 17) ∷ []
+largeRow tag value = (hasLarge (kindOf tag) value, largeNumber (kindOf tag) (largeAt (kindOf tag) value)) ∷ []
 
 -- the value of a point behind its number
 abbrev pub valueRows : ℕ → List ℕ → List (Bool × ℕ)
 valueRows tag value = unfitRow tag value ++ largeRow tag value
+
+-- THE INDEX that adding and writing a point tell (CR 3).
+
+-- the refusals that are about one reading
+abbrev pub isOfReading : ℕ → Bool
+isOfReading refusal = eqb refusal 51 || eqb refusal 52
+
+-- 'The index is 0 in every other answer of adding and of writing a point.'
+abbrev pub indexTold : ℕ → ℕ → List ℕ → ℕ
+indexTold refusal tag value = cond (isOfReading refusal) (largeAt (kindOf tag) value) 0
+
+-- a refusal of a tag and value, with its index
+abbrev pub withIndex : ℕ → ℕ → List ℕ → Refusal
+withIndex refusal tag value = record { number = refusal; index = indexTold refusal tag value }

@@ -5,9 +5,10 @@ ghost use lib.ListN.{length, getD};
 ghost use Rattle.numbers.specs.Refusals.{firstOf};
 ghost use Rattle.heads.specs.Limits.{lowClass, extraHighClass};
 ghost use Rattle.numbers.specs.PointNumbers.{numberLength};
-ghost use Rattle.points.specs.Points.{kindOf, sizeOf, numberOf, readingsAt, hasLarge};
-ghost use Rattle.points.specs.Points.{tagRow, formRows, classRow, baselineRow, shareRow, unfitRow, valueRows};
+ghost use Rattle.points.specs.Points.{kindOf, sizeOf, numberOf, readingsAt, largeNumber, withIndex};
+ghost use Rattle.points.specs.Points.{tagRow, formRows, classRow, baselineRow, shareRow, unfitRow, largeRow, valueRows};
 use numbers::NUMBER_LENGTH;
+use numbers::SLOTS_OF_DAY;
 use readings::READING_LENGTH;
 
 // The tags of points, and the lengths of their values (specs/Points).
@@ -48,6 +49,12 @@ const MOST_BASELINE: u32 = 1000000;
 
 // The tenths of a percent that a biomass share may reach.
 const MOST_SHARE: u16 = 1000;
+
+// A refusal of a point, 0 is accepted, and the index of the reading that it is about, 0 where it is about none.
+pub struct Refusal {
+    pub number: u32,
+    pub index: u32,
+}
 
 // A tag of no kind of point.
 pub fn tag_refusal(tag: u8) -> u32
@@ -140,14 +147,38 @@ fn unfit_refusal(tag: u8, value: &[u8]) -> u32
     }
 }
 
+// The refusal of a reading above the limit: one of a consumer's days back, or any other.
+fn large_number(tag: u8, index: usize) -> u32
+    ensures { λ r. ⌜ r ≡ largeNumber (kindOf tag) index ⌝ }
+{
+    if tag != CONSUMER {
+        return refusals::READING;
+    }
+    if index < SLOTS_OF_DAY {
+        return refusals::READING;
+    }
+    refusals::READING_BACK
+}
+
 // A reading above the limit, used or not.
-fn has_large(tag: u8, value: &[u8]) -> bool
+fn large_refusal(tag: u8, value: &[u8]) -> Refusal
     requires { ⌜ length (now value) ≡ sizeOf (kindOf tag) ⌝ }
-    ensures { λ r. ⌜ r ≡ hasLarge (kindOf tag) (now (value .entry)) ⌝ }
+    ensures { λ r. ⌜ r ≡ withIndex (firstOf (largeRow tag (now (value .entry)))) tag (now (value .entry)) ⌝ }
 {
     let at = readings_at(tag);
     let count = (value.len() - at) / READING_LENGTH;
-    readings::first_large(&value[at..], count) < count
+    let index = readings::first_large(&value[at..], count);
+    if index < count {
+        let number = large_number(tag, index);
+        return Refusal {
+            number,
+            index: index as u32,
+        };
+    }
+    Refusal {
+        number: refusals::ACCEPTED,
+        index: 0,
+    }
 }
 
 // The point number at the front of a value.
@@ -179,16 +210,16 @@ pub fn form_refusal(tag: u8, length: usize) -> u32
 }
 
 // A class, a baseline, a share or a reading that is not allowed.
-pub fn value_refusal(tag: u8, value: &[u8]) -> u32
+pub fn value_refusal(tag: u8, value: &[u8]) -> Refusal
     requires { ⌜ length (now value) ≡ sizeOf (kindOf tag) ⌝ }
-    ensures { λ r. ⌜ r ≡ firstOf (valueRows tag (now (value .entry))) ⌝ }
+    ensures { λ r. ⌜ r ≡ withIndex (firstOf (valueRows tag (now (value .entry)))) tag (now (value .entry)) ⌝ }
 {
     let unfit = unfit_refusal(tag, value);
     if unfit != refusals::ACCEPTED {
-        return unfit;
+        return Refusal {
+            number: unfit,
+            index: 0,
+        };
     }
-    if has_large(tag, value) {
-        return refusals::READING;
-    }
-    refusals::ACCEPTED
+    large_refusal(tag, value)
 }

@@ -111,3 +111,36 @@ module _ (readings : List ℕ) where
   -- WHAT NO TOO LARGE READING MEANS: each is within the limit.
   pub none-large : (n i : ℕ) → firstLarge readings n ≡ n → i < n → word32 readings (i * readingLength) ≤ mostReading
   none-large n i e h = rw zero-add at (in-limit n 0 i e h)
+
+  found-large : (n i : ℕ) → from i n < n → mostReading < word32 readings ((i + from i n) * readingLength)
+  found-large zero i h = absurd (omega arith)
+  found-large (suc n) i h = go (ltb mostReading (word32 readings (i * readingLength))) refl (found-large n (i + 1))
+    where
+      go : (t : Bool) → ltb mostReading (word32 readings (i * readingLength)) ≡ t
+          → (from (i + 1) n < n → mostReading < word32 readings ((i + 1 + from (i + 1) n) * readingLength))
+          → mostReading < word32 readings ((i + from i (suc n)) * readingLength)
+      go true p r = let l = ltb-true _ _ p in rw (stop i n l, add-zero) l
+      go false p r =
+          let next = pass i n (ltb-false _ _ p) in
+          let k : i + 1 + from (i + 1) n ≡ i + suc (from (i + 1) n) = omega arith in
+          rw (next, ← k) (r (omega (arith, next)))
+
+  small-before : (n i j : ℕ) → j < from i n → word32 readings ((i + j) * readingLength) ≤ mostReading
+  small-before zero i j h = absurd (omega (arith, first-bound (drop (i * readingLength) readings) 0))
+  small-before (suc n) i j h = go (ltb mostReading (word32 readings (i * readingLength))) refl (small-before n (i + 1)) j h
+    where
+      go : (t : Bool) → ltb mostReading (word32 readings (i * readingLength)) ≡ t
+          → ((j : ℕ) → j < from (i + 1) n → word32 readings ((i + 1 + j) * readingLength) ≤ mostReading)
+          → (j : ℕ) → j < from i (suc n) → word32 readings ((i + j) * readingLength) ≤ mostReading
+      go true p r j h = absurd (omega (arith, stop i n (ltb-true _ _ p)))
+      go false p r zero h = rw add-zero (ltb-false _ _ p)
+      go false p r (suc j) h =
+          let k : i + 1 + j ≡ i + suc j = omega arith in
+          rw k at (r j (omega (arith, pass i n (ltb-false _ _ p))))
+
+  -- WHAT THE FIRST TOO LARGE READING IS: it is above the limit, and none before it is.
+  pub first-is-large : (n : ℕ) → firstLarge readings n < n → mostReading < word32 readings (firstLarge readings n * readingLength)
+  first-is-large n h = rw zero-add at (found-large n 0 h)
+
+  pub first-is-first : (n i : ℕ) → i < firstLarge readings n → word32 readings (i * readingLength) ≤ mostReading
+  first-is-first n i h = rw zero-add at (small-before n 0 i h)

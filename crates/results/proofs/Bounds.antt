@@ -3,7 +3,7 @@ use mathlib.Core.Path.{_≡_}
 use mathlib.Core.Bool.{Bool, false, true≢false}
 use mathlib.Core.List.{List}
 use Prim.Native.Nat.{ℕ, _+_, _*_, _-_, _≤_, _<_}
-use native.Mathlib.Nat.{le-antisymm, mul-le-mul-left, lt-of-mul-lt-mul-right}
+use native.Mathlib.Nat.{mul-le-mul-left, lt-of-mul-lt-mul-right}
 use native.Mathlib.Omega.{arith}
 use lib.Dec.{T, ltb}
 use lib.IntN.{ℤ, pos, natAbs, _+ℤ_, _-ℤ_, _*ℤ_}
@@ -15,26 +15,20 @@ use Rattle.numbers.specs.Lists.{run, any}
 use Rattle.numbers.proofs.Filling.{run-length, any-none}
 use Rattle.integers.proofs.Differences.{by⊖, ⊖s}
 use Rattle.integers.proofs.Floors.{floor-low, floor-high}
-use Rattle.readings.specs.Readings.{mostReading, firstLarge}
-use Rattle.readings.proofs.Large.{none-large, first-bound}
+use Rattle.readings.specs.Readings.{mostReading}
+use Rattle.readings.proofs.Large.{none-large}
 use Rattle.readings.proofs.Bounds.{reading-bound}
 use Rattle.baseline.specs.Consumers.{mostConsumerBaseline}
 use Rattle.baseline.proofs.Bounds.{baselines-bound}
 use Rattle.heads.specs.Limits.{mostLoss, mostBaseline, mostShare, mostResult}
 use Rattle.heads.specs.Heads.{testDay}
 use Rattle.heads.proofs.Opening.{Opens}
-use Rattle.points.specs.Points.{Kind, consumer, generator, mixedFiring, unknown, isUnknown, isUnfit, hasLarge, readingsOf, readingsIn, baselineOf, shareOf}
+use Rattle.points.proofs.TooLarge.{all-tested}
+use Rattle.points.specs.Points.{Kind, consumer, generator, mixedFiring, unknown, isUnknown, isUnfit, hasLarge, readingsOf, baselineOf, shareOf}
 use Rattle.results.proofs.SlotResults.{floor-one}
 use Rattle.results.specs.SlotResults.{Quotient, lossOf, consumerQuotient, generatorQuotient, mixedFiringQuotient, quotients, rounded, results}
 use Rattle.heads.specs.declared.Head.{Head}
 use Rattle.numbers.proofs.Tests.{no-false, noneOf, none-run}
-
--- 17 was not told
-pub all-tested : (kind : Kind) (value : List ℕ) → hasLarge kind value ≡ false → firstLarge (readingsOf kind value) (readingsIn kind) ≡ readingsIn kind
-all-tested kind value e =
-    let readings = readingsOf kind value in
-    let n = readingsIn kind in
-    le-antisymm (first-bound readings n) (ltb-false (firstLarge readings n) n e)
 
 -- ---- slot results
 

@@ -30,7 +30,7 @@ use Rattle.points.specs.Points.{consumer, consumerReadingsAt, classOf}
 use Rattle.results.specs.SlotResults.{lossOf, daysOf, consumerQuotient, quotients, rounded, results}
 use Rattle.results.specs.Steps.{Passed, consumerSlot, foundOf}
 use Rattle.results.proofs.SlotResults.{map-run}
-use Rattle.results.proofs.Bounds.{all-tested}
+use Rattle.points.proofs.TooLarge.{all-tested}
 
 module _ {h : Head} {marks v : List ℕ} (p : Passed h marks consumer v) where
   pub dated : isDate (h .year) (h .month) (h .day) ≡ true

@@ -2,3 +2,4 @@ pub mod Cutting
 pub mod Figures
 pub mod RoundTrips
 pub mod WritingCalls
+pub mod Seventeen

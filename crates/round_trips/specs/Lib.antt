@@ -1,2 +1,3 @@
 pub mod Demand2
 pub mod WritingCalls
+pub mod Seventeen

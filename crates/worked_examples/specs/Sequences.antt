@@ -143,7 +143,7 @@ abbrev pub WithPlants : Type 0
 WithPlants =
     let exact = 533 * kW + 93_997 * mW in
     (program twoPoints allMarked plantCalls
-    ≡ accepted ∷ refused 20 ∷ refused 50 ∷ refused 17 ∷ accepted ∷ refused 15 ∷ accepted ∷ closed plantFigures ∷ [])
+    ≡ accepted ∷ refused 20 ∷ refused 50 ∷ refused 51 ∷ accepted ∷ refused 15 ∷ accepted ∷ closed plantFigures ∷ [])
     × (account twoPoints allMarked plantCalls
     ≡ Said.accepted ∷ Said.refused ∷ Said.refused ∷ Said.refused ∷ Said.accepted ∷ Said.refused ∷ Said.accepted ∷ Said.closed exact ∷ [])
     × (534 * kW ≡ exact + 906_003 * mW)

@@ -9,7 +9,7 @@ use lib.IntN.{ℤ, pos}
 use lib.ListN.{replicate}
 use Rattle.numbers.specs.Slots.{noDays}
 use Rattle.heads.specs.Heads.{headOf}
-use Rattle.points.specs.Points.{numberOf}
+use Rattle.points.specs.Points.{numberOf, indexTold}
 use Rattle.ledger.specs.States.{taken}
 use Rattle.ledger.specs.Operations.{openOf, addingRefusal, resultsOf, daysToldOf, closeOf}
 use Rattle.calls.specs.Calls.{Call, adding, closing, Reply, accepted, closed, replyOf, program, pointsTaken}
@@ -29,8 +29,8 @@ addBy summing state tag value places =
     let refusal = addingRefusal state tag value places in
     let next = taken state (summing state (resultsOf state tag value)) (numberOf value) in
     cond (eqb refusal 0)
-    (record { refusal = 0; state = next; days = daysToldOf state tag value })
-    (record { refusal = refusal; state = state; days = noDays })
+    (record { refusal = 0; state = next; days = daysToldOf state tag value; index = 0 })
+    (record { refusal = refusal; state = state; days = noDays; index = indexTold refusal tag value })
 
 unfoldable pub repliesBy : Summing → State → List Call → List Reply
 repliesBy summing state [] = []

@@ -10,9 +10,10 @@ use Rattle.numbers.specs.Refusals.{firstOf}
 use Rattle.numbers.specs.PointNumbers.{isNumber}
 use Rattle.numbers.specs.Placing.{atFront}
 use Rattle.numbers.proofs.Refusals.{untold, told, passed}
-use Rattle.points.specs.Points.{kindOf, sizeOf, numberOf, formRows, numberRow, valueRows}
+use Rattle.points.specs.Points.{kindOf, sizeOf, numberOf, formRows, numberRow, valueRows, withIndex}
+use Rattle.points.specs.declared.Refusal.{Refusal}
 use Rattle.fields.specs.Fields.{written}
-use Rattle.writing.specs.Writing.{roomRow, valueWritingTests, valueWritingRefusal, pointWritingRefusal, pointWritingOut}
+use Rattle.writing.specs.Writing.{roomRow, valueWritingTests, valueWritingRefusal, pointWritingRefusal, pointWritingAnswer, pointWritingOut}
 use Rattle.points.proofs.PointKinds.{kind-small, values-numbered}
 
 module _ (tag : ℕ) (value : List ℕ) where
@@ -36,14 +37,14 @@ module _ (tag : ℕ) (value : List ℕ) where
   -- ---- the answer and the lent bytes, in each case
 
   module _ (out : List ℕ) where
-    abbrev PointAnswer : ℕ → List ℕ → Type 0
-    PointAnswer refusal bytes = (refusal ≡ pointWritingRefusal tag value (length out)) × (bytes ≡ pointWritingOut tag value out)
+    abbrev PointAnswer : Refusal → List ℕ → Type 0
+    PointAnswer answer bytes = (answer ≡ pointWritingAnswer tag value (length out)) × (bytes ≡ pointWritingOut tag value out)
 
     told-first : (valueWritingRefusal tag value ≡ 0 → ⊥) → pointWritingRefusal tag value (length out) ≡ valueWritingRefusal tag value
     unfolding pointWritingRefusal valueWritingRefusal
     told-first n = told (valueWritingTests tag value) (roomRow (length out) (3 + length value)) n
 
-    pub point-refused : (valueWritingRefusal tag value ≡ 0 → ⊥) → PointAnswer (valueWritingRefusal tag value) out
+    pub point-refused : (valueWritingRefusal tag value ≡ 0 → ⊥) → PointAnswer (withIndex (valueWritingRefusal tag value) tag value) out
     unfolding pointWritingOut
     point-refused n = rw (told-first n) (refl, simp (ne-eqb _ _ n))
 
@@ -58,10 +59,10 @@ module _ (tag : ℕ) (value : List ℕ) where
       unfolding pointWritingRefusal valueWritingRefusal
       room-next = passed (valueWritingTests tag value) (roomRow (length out) (3 + length value)) (values-numbered tag value) e
 
-      pub point-room : length out < 3 + length value → PointAnswer 40 out
+      pub point-room : length out < 3 + length value → PointAnswer (record { number = 40; index = 0 }) out
       unfolding pointWritingOut
       point-room h = rw (room-next, lt-ltb (length out) (3 + length value) h) (refl, refl)
 
-      pub point-written : 3 + length value ≤ length out → PointAnswer 0 (atFront (written tag value) out)
+      pub point-written : 3 + length value ≤ length out → PointAnswer (record { number = 0; index = 0 }) (atFront (written tag value) out)
       unfolding pointWritingOut
       point-written h = rw (room-next, le-ltb (length out) (3 + length value) h) (refl, refl)

@@ -7,7 +7,8 @@ use lib.ListN.{length}
 use Rattle.numbers.specs.Refusals.{firstOf}
 use Rattle.numbers.specs.Placing.{atFront}
 use Rattle.heads.specs.Heads.{headTag, calendarTag, openingTests}
-use Rattle.points.specs.Points.{numberOf, formRows, numberRow, valueRows}
+use Rattle.points.specs.Points.{numberOf, formRows, numberRow, valueRows, withIndex}
+use Rattle.points.specs.declared.Refusal.{Refusal}
 use Rattle.fields.specs.Fields.{headerLength, written}
 
 -- '40: too few bytes'
@@ -33,7 +34,7 @@ unfoldable pub headWritingOut : List ℕ → List ℕ → List ℕ → List ℕ
 headWritingOut head calendar out =
     cond (eqb (headWritingRefusal head calendar (length out)) 0) (atFront (writtenHead head calendar) out) out
 
--- A POINT. 'A point: 11, 12, 14, 16, 17. Then 40: too few bytes.' CR 1: 50 in the place of 16.
+-- A POINT. 'A point: 11, 12, 14, 16, 17. Then 40: too few bytes.' CR 1: 50 in the place of 16; CR 3: 51 and 52 in that of 17.
 abbrev pub valueWritingTests : ℕ → List ℕ → List (Bool × ℕ)
 valueWritingTests tag value = formRows tag (length value) ++ numberRow (numberOf value) ++ valueRows tag value
 
@@ -45,6 +46,10 @@ valueWritingRefusal tag value = firstOf (valueWritingTests tag value)
 
 unfoldable pub pointWritingRefusal : ℕ → List ℕ → ℕ → ℕ
 pointWritingRefusal tag value room = firstOf (pointWritingTests tag value room)
+
+-- the answer; CR 3: with the index of the reading
+abbrev pub pointWritingAnswer : ℕ → List ℕ → ℕ → Refusal
+pointWritingAnswer tag value room = withIndex (pointWritingRefusal tag value room) tag value
 
 unfoldable pub pointWritingOut : ℕ → List ℕ → List ℕ → List ℕ
 pointWritingOut tag value out = cond (eqb (pointWritingRefusal tag value (length out)) 0) (atFront (written tag value) out) out

@@ -5,9 +5,11 @@ ghost use lib.ListN.{length};
 ghost use Rattle.numbers.specs.Placing.{atFront};
 ghost use Rattle.fields.specs.Fields.{headerLength, written};
 ghost use Rattle.writing.specs.Writing.{headWritingRefusal, headWritingOut};
-ghost use Rattle.writing.specs.Writing.{valueWritingRefusal, pointWritingRefusal, pointWritingOut};
+ghost use Rattle.points.specs.Points.{withIndex};
+ghost use Rattle.writing.specs.Writing.{valueWritingRefusal, pointWritingAnswer, pointWritingOut};
 use fields::HEADER_LENGTH;
 use numbers::NUMBER_LENGTH;
+use points::Refusal;
 
 // The bytes of a head's field, and those with the calendar's field behind it.
 const HEAD_FIELD: usize = 20;
@@ -48,32 +50,44 @@ pub fn write_head(head: &[u8], calendar: &[u8], out: &mut [u8]) -> u32
     refusals::ACCEPTED
 }
 
-// What is refused in a point before room is looked for: 11, 12, 14, 16 or 50, 17.
-fn point_refusal(tag: u8, value: &[u8]) -> u32
-    ensures { λ r. ⌜ r ≡ valueWritingRefusal tag (now (value .entry)) ⌝ }
+// What is refused in a point before room is looked for, 11, 12, 14, 16 or 50, 51 and 52, with the index of a reading.
+fn point_refusal(tag: u8, value: &[u8]) -> Refusal
+    ensures { λ r. ⌜ r ≡ withIndex (valueWritingRefusal tag (now (value .entry))) tag (now (value .entry)) ⌝ }
 {
     let form = points::form_refusal(tag, value.len());
     if form != refusals::ACCEPTED {
-        return form;
+        return Refusal {
+            number: form,
+            index: 0,
+        };
     }
     if !numbers::is_number(&value[0..NUMBER_LENGTH]) {
-        return refusals::POINT_NUMBER;
+        return Refusal {
+            number: refusals::POINT_NUMBER,
+            index: 0,
+        };
     }
     points::value_refusal(tag, value)
 }
 
-// A point's field.
-pub fn write_point(tag: u8, value: &[u8], out: &mut [u8]) -> u32
-    ensures { λ r. ⌜ r ≡ pointWritingRefusal tag (now (value .entry)) (length (now (out .entry))) ⌝ }
-    ensures { λ _. ⌜ now (out .exit) ≡ pointWritingOut tag (now (value .entry)) (now (out .entry)) ⌝ }
+// A point's field. The answer has the index of the reading which is too large, 0 in every other case.
+pub fn write_point(tag: u8, value: &[u8], out: &mut [u8]) -> Refusal
+    ensures answer { λ r. ⌜ r ≡ pointWritingAnswer tag (now (value .entry)) (length (now (out .entry))) ⌝ }
+    ensures lent { λ _. ⌜ now (out .exit) ≡ pointWritingOut tag (now (value .entry)) (now (out .entry)) ⌝ }
 {
     let refusal = point_refusal(tag, value);
-    if refusal != refusals::ACCEPTED {
+    if refusal.number != refusals::ACCEPTED {
         return refusal;
     }
     if out.len() < HEADER_LENGTH + value.len() {
-        return refusals::LENT_BYTES;
+        return Refusal {
+            number: refusals::LENT_BYTES,
+            index: 0,
+        };
     }
     put_field(tag, value, out);
-    refusals::ACCEPTED
+    Refusal {
+        number: refusals::ACCEPTED,
+        index: 0,
+    }
 }

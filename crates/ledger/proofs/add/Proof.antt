@@ -1,5 +1,5 @@
 -- An early refusal, too few days, and the point taken.
-use mathlib.Core.Path.{_≡_, sym, _∙_}
+use mathlib.Core.Path.{_≡_, refl, ap, sym, _∙_}
 use mathlib.Core.Bool.{false}
 use native.Mathlib.Omega.{arith}
 use lib.ListN.{length}
@@ -9,7 +9,7 @@ use Rattle.results.specs.SlotResults.{lacksDays}
 use Rattle.results.specs.declared.Found.{Found}
 use Rattle.ledger.specs.States.{taken}
 use Rattle.ledger.specs.Operations.{addingRefusal, resultsOf, daysToldOf}
-use Rattle.ledger.proofs.AddSteps.{days-lack, days-suffice, found-is, Early, early-told, early, took, places-good, refused}
+use Rattle.ledger.proofs.AddSteps.{days-lack, days-suffice, found-is, Early, early, took, places-good, refused, early-refused}
 use Rattle.ledger.proofs.add.Statement.{statement}
 use Rattle.ledger.proofs.add.Tie as tie
 
@@ -19,7 +19,7 @@ module _ (c : tie.Else1) where
   start = c .before .before .before
 
   facts : let a = start .args in Early (a .state) (a .tag) (a .value .now) (length (a .places .now))
-  facts = early _ _ _ _ (sym (c .before .early-refusal .ensures) ∙ c .if1 .left)
+  facts = early _ _ _ _ (sym (ap (λ r. r .number) (c .before .early-refusal .ensures)) ∙ c .if1 .left)
 
 -- behind the choice of days
 module _ (c : tie.Else2) where
@@ -47,9 +47,7 @@ abbrev totals-at : tie.After-add-totals → tie.After-put
 totals-at c = c .before .before .before
 
 returns : tie.Need-returns
-returns c =
-    let e = c .before .early-refusal .ensures in
-    refused _ _ _ _ (early-told _ _ _ _ (λ z. c .if1 .taken (e ∙ z)) ∙ sym e) (c .if1 .taken)
+returns c = early-refused _ _ _ _ (c .before .early-refusal .ensures) (c .if1 .taken)
 
 results-of-requires : tie.Need-results-of-requires
 results-of-requires c κs =
@@ -60,7 +58,7 @@ results-of-requires c κs =
 returns-2 : tie.Need-returns-2
 returns-2 c =
     let few = days-lack _ _ (kindOf (start (c .before .before .before .before) .args .tag)) _ (c .before .results-of .ensures) (c .if2 .taken) in
-    refused _ _ _ _ (facts (c .before .before .before .before) .days ∙ simp few) (λ z. omega arith)
+    refused _ _ _ _ (facts (c .before .before .before .before) .days ∙ simp few) (λ z. omega arith) refl
 
 add-totals-requires : tie.Need-add-totals-requires
 add-totals-requires c κs =

@@ -1,9 +1,12 @@
 -- Row by row.
-use mathlib.Core.Path.{sym, ap, _∙_}
+use mathlib.Core.Path.{refl, sym, ap, _∙_}
 use mathlib.Core.Bool.{not}
 use native.Mathlib.Omega.{arith}
 use borrow.Author.Tests.{not-true, not-false}
+use Rattle.numbers.specs.Lists.{any}
+use Rattle.points.specs.Points.{formRows, withIndex}
 use Rattle.points.proofs.PointKinds.{right-length, long-enough}
+use Rattle.points.proofs.Indexes.{no-index, no-index-in}
 use lib.ListN.{length}
 use Rattle.writing.proofs.WritingRows.{form-told, number-told, number-passed}
 use borrow.Author.Needs.{needs}
@@ -11,7 +14,11 @@ use Rattle.writing.proofs.point_refusal.Statement.{statement}
 use Rattle.writing.proofs.point_refusal.Tie as tie
 
 returns : tie.Need-returns
-returns c = let e = c .before .form-refusal .ensures in rw e (sym (form-told _ _ (rw e at (c .if1 .taken))))
+unfolding any
+returns c =
+    let a = c .before .before .before .args in
+    let e = c .before .form-refusal .ensures in
+    no-index-in (a .tag) (a .value .now) (formRows (a .tag) (length (a .value .now))) tt e (e ∙ sym (form-told _ _ (rw e at (c .if1 .taken))))
 
 part-is-number-end : tie.Need-part-is-number-end
 part-is-number-end c =
@@ -24,7 +31,8 @@ returns-2 c =
     let f = c .before .before .before in
     let e = sym (f .before .form-refusal .ensures) ∙ f .if1 .left in
     let n = ap not (sym (c .before .is-number .ensures)) ∙ c .if2 .taken in
-    sym (number-told _ _ e (not-true _ n))
+    let a = f .before .before .before .args in
+    no-index (a .tag) (a .value .now) (sym (number-told _ _ e (not-true _ n))) refl
 
 value-refusal-requires : tie.Need-value-refusal-requires
 value-refusal-requires c κs =
@@ -37,7 +45,8 @@ returns-3 c =
     let f = c .before .before .before .before in
     let e = sym (f .before .form-refusal .ensures) ∙ f .if1 .left in
     let n = ap not (sym (c .before .before .is-number .ensures)) ∙ c .before .if2 .left in
-    c .value-refusal .ensures ∙ sym (number-passed _ _ e (not-false _ n))
+    let a = f .before .before .before .args in
+    c .value-refusal .ensures ∙ ap (λ n. withIndex n (a .tag) (a .value .now)) (sym (number-passed _ _ e (not-false _ n)))
 
 pub point-refusal-spec : {M : Type 1} → statement M
 point-refusal-spec =

@@ -1,0 +1,108 @@
+-- What a table of refusals that holds the rows of a value tells of its readings. Assumes nothing.
+use mathlib.Core.Path.{_≡_, refl, ap, sym, _∙_}
+use mathlib.Core.Bool.{Bool, true, false, cond, true≢false}
+use mathlib.Core.List.{List, _++_}
+use Prim.Native.Nat.{ℕ, _+_, _*_, _<_, _≤_}
+use native.Mathlib.Nat.{add-assoc, le-antisymm}
+use native.Mathlib.Decide.{ℕ-discrete}
+use native.Mathlib.Omega.{arith}
+use lib.Dec.{T, ltb, eqb}
+use lib.Seq.{getD-drop}
+use borrow.Author.Tests.{ltb-true, ltb-false, ne-eqb}
+use Rattle.numbers.specs.Refusals.{firstOf}
+use Rattle.numbers.specs.Slots.{slotsOfDay}
+use Rattle.numbers.specs.Words.{word32}
+use Rattle.numbers.proofs.Refusals.{numbered, both-accepted}
+use Rattle.numbers.proofs.NeverTold.{Without, told-within}
+use Rattle.readings.specs.Readings.{readingLength, mostReading, firstLarge}
+use Rattle.readings.proofs.Large.{first-bound, none-large, first-is-large, first-is-first}
+use Rattle.points.specs.Points.{Kind, consumer, consumerTag, kindOf, readingsAt, readingsOf, readingsIn, isUnfit, largeAt, hasLarge}
+use Rattle.points.specs.Points.{unfitNumber, largeNumber, valueRows, isOfReading, indexTold}
+use Rattle.points.specs.TooLarge.{readingAt, IsFirstLarge, TellsReading}
+use Rattle.points.proofs.PointKinds.{of-tag, isAboutReading, unfit-other, large-number, large-other, values-numbered, all-small}
+
+-- ---- the readings of a value
+
+module _ (kind : Kind) (value : List ℕ) where
+  reading-is : (i : ℕ) → word32 (readingsOf kind value) (i * readingLength) ≡ readingAt kind value i
+  reading-is i = simp (getD-drop, add-assoc)
+
+  first-large-is : hasLarge kind value ≡ true → IsFirstLarge kind value (largeAt kind value)
+  first-large-is e =
+      let readings = readingsOf kind value in
+      let within = ltb-true _ _ e in
+      record {
+        within = within;
+        large = rw (reading-is (largeAt kind value)) at (first-is-large readings (readingsIn kind) within);
+        before = λ i h. rw (reading-is i) at (first-is-first readings (readingsIn kind) i h);
+      }
+
+  -- no large reading was told
+  pub all-tested : hasLarge kind value ≡ false → firstLarge (readingsOf kind value) (readingsIn kind) ≡ readingsIn kind
+  all-tested e =
+      let readings = readingsOf kind value in
+      let n = readingsIn kind in
+      le-antisymm (first-bound readings n) (ltb-false (firstLarge readings n) n e)
+
+  none-is-large : hasLarge kind value ≡ false → (i : ℕ) → i < readingsIn kind → readingAt kind value i ≤ mostReading
+  none-is-large e i h = rw (reading-is i) at (none-large (readingsOf kind value) (readingsIn kind) i (all-tested e) h)
+
+-- ---- the number, by the index
+
+of-consumer : (index number : ℕ) → largeNumber consumer index ≡ number → (number ≡ 51 → index < slotsOfDay) × (number ≡ 52 → slotsOfDay ≤ index)
+of-consumer index number e = go (ltb index slotsOfDay) refl e
+  where
+    go : (t : Bool) → ltb index slotsOfDay ≡ t → cond t 51 52 ≡ number → (number ≡ 51 → index < slotsOfDay) × (number ≡ 52 → slotsOfDay ≤ index)
+    go true p e = (λ z. ltb-true _ _ p, λ z. absurd (omega arith))
+    go false p e = (λ z. absurd (omega arith), λ z. ltb-false _ _ p)
+
+-- ---- a table with the rows of a value in it
+
+module _ (tag : ℕ) (value : List ℕ) where
+  abbrev large : ℕ
+  large = largeNumber (kindOf tag) (largeAt (kindOf tag) value)
+
+  -- a number about a reading is told of a large one
+  value-told : isAboutReading (firstOf (valueRows tag value)) ≡ true → (hasLarge (kindOf tag) value ≡ true) × (firstOf (valueRows tag value) ≡ large)
+  value-told t = go (isUnfit (kindOf tag) value) (hasLarge (kindOf tag) value) t
+    where
+      go : (unfit isLarge : Bool) → isAboutReading (cond unfit (unfitNumber (kindOf tag)) (cond isLarge large 0)) ≡ true
+          → (isLarge ≡ true) × (cond unfit (unfitNumber (kindOf tag)) (cond isLarge large 0) ≡ large)
+      go true isLarge t = absurd (true≢false (sym t ∙ unfit-other (kindOf tag)))
+      go false true t = (refl, refl)
+      go false false t = absurd (true≢false (sym t))
+
+  module _ (before after : List (Bool × ℕ)) (k : T (numbered before)) (b : Without isAboutReading before) (a : Without isAboutReading after)
+      {refusal index : ℕ} (e : refusal ≡ firstOf (before ++ (valueRows tag value ++ after))) (i : index ≡ indexTold refusal tag value) where
+    -- of a refusal about a reading
+    told-large : isAboutReading refusal ≡ true → (hasLarge (kindOf tag) value ≡ true) × (refusal ≡ large)
+    told-large t =
+        let within = told-within isAboutReading before (valueRows tag value) after k (values-numbered tag value) refl b a (ap isAboutReading (sym e) ∙ t) in
+        let l = value-told (ap isAboutReading (sym within ∙ sym e) ∙ t) in
+        (l .0, e ∙ within ∙ l .1)
+
+    index-is : isOfReading refusal ≡ true → index ≡ largeAt (kindOf tag) value
+    index-is t = i ∙ simp t
+
+    first-is : isOfReading refusal ≡ true → hasLarge (kindOf tag) value ≡ true → IsFirstLarge (kindOf tag) value index
+    first-is t l = rw (index-is t) (first-large-is (kindOf tag) value l)
+
+    -- of a consumer, by the index
+    consumer-is : isOfReading refusal ≡ true → refusal ≡ large → tag ≡ consumerTag → (refusal ≡ 51 → index < slotsOfDay) × (refusal ≡ 52 → slotsOfDay ≤ index)
+    consumer-is t l c = rw (index-is t) (of-consumer (largeAt (kindOf tag) value) refusal (ap (λ kind. largeNumber kind (largeAt (kindOf tag) value)) (sym (of-tag tag consumerTag c)) ∙ sym l))
+
+    is-consumer : refusal ≡ large → refusal ≡ 52 → tag ≡ consumerTag
+    is-consumer l z = go (ℕ-discrete tag consumerTag)
+      where
+        go : Dec (tag ≡ consumerTag) → tag ≡ consumerTag
+        go (yes c) = c
+        go (no n) = absurd (let f : 51 ≡ 52 = sym (large-other tag (largeAt (kindOf tag) value) n) ∙ sym l ∙ z in omega arith)
+
+    pub tells-reading : TellsReading tag value refusal index
+    tells-reading = record {
+      testDay = λ z. let l = told-large (ap isAboutReading z) in let t = ap isOfReading z in (first-is t (l .0), λ c. consumer-is t (l .1) c .0 z);
+      daysBack = λ z. let l = told-large (ap isAboutReading z) in let t = ap isOfReading z in let c = is-consumer (l .1) z in (first-is t (l .0), c, consumer-is t (l .1) c .1 z);
+      other = λ n m. i ∙ simp (ne-eqb refusal 51 n, ne-eqb refusal 52 m);
+      accepted = λ z. none-is-large (kindOf tag) value (all-small tag value (both-accepted (valueRows tag value) after (values-numbered tag value) (both-accepted before (valueRows tag value ++ after) k (sym e ∙ z) .1) .0));
+      gone = λ z. omega (arith, told-large (ap isAboutReading z) .1, large-number (kindOf tag) (largeAt (kindOf tag) value) .0);
+    }
