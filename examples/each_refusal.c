@@ -24,11 +24,26 @@ enum {
 static uint8_t good[BOOK + 1], book[BOOK + 1];
 static int failures;
 
-static void check(uint32_t found, uint32_t due, const char *what)
+/* The answer of writing a point has no index here, so that it is the refusal. */
+static void check(uint64_t found, uint32_t due, const char *what)
 {
     if (found == due)
         return;
-    printf("not as named: %s: %u (%s), not %u\n", what, (unsigned)found, refusal_in_words(found), (unsigned)due);
+    printf("not as named: %s: %u (%s) with index %u, not %u\n", what, (unsigned)TEMBUYAS_REFUSAL(found),
+           refusal_in_words(TEMBUYAS_REFUSAL(found)), (unsigned)TEMBUYAS_INDEX(found), (unsigned)due);
+    failures++;
+}
+
+/* An answer about a reading: the refusal, the index and the words. */
+static void check_reading(uint64_t found, uint8_t tag, uint32_t refusal, uint32_t index, const char *words)
+{
+    char text[READING_WORDS];
+    if (TEMBUYAS_REFUSAL(found) == refusal && TEMBUYAS_INDEX(found) == index
+        && !strcmp(reading_in_words(text, tag, found), words))
+        return;
+    printf("not as named: %u with index %u (%s), not %u with %u (%s)\n", (unsigned)TEMBUYAS_REFUSAL(found),
+           (unsigned)TEMBUYAS_INDEX(found), reading_in_words(text, tag, found), (unsigned)refusal, (unsigned)index,
+           words);
     failures++;
 }
 
@@ -127,18 +142,18 @@ static uint32_t head_written(void)
                                out, sizeof out);
 }
 
-static uint32_t points_written(void)
+static uint64_t points_written(void)
 {
     static uint8_t out[TEMBUYAS_WRITTEN_CONSUMER_BYTES];
-    uint32_t refusal = tembuyas_write_point(book[CONSUMER - 3], book + CONSUMER, TEMBUYAS_CONSUMER_BYTES,
-                                            out, sizeof out);
-    if (!refusal)
-        refusal = tembuyas_write_point(book[GENERATOR - 3], book + GENERATOR, TEMBUYAS_GENERATOR_BYTES,
-                                       out, sizeof out);
-    if (!refusal)
-        refusal = tembuyas_write_point(book[MIXED_FIRING - 3], book + MIXED_FIRING, TEMBUYAS_MIXED_FIRING_BYTES,
-                                       out, sizeof out);
-    return refusal;
+    uint64_t answer = tembuyas_write_point(book[CONSUMER - 3], book + CONSUMER, TEMBUYAS_CONSUMER_BYTES,
+                                           out, sizeof out);
+    if (!answer)
+        answer = tembuyas_write_point(book[GENERATOR - 3], book + GENERATOR, TEMBUYAS_GENERATOR_BYTES,
+                                      out, sizeof out);
+    if (!answer)
+        answer = tembuyas_write_point(book[MIXED_FIRING - 3], book + MIXED_FIRING, TEMBUYAS_MIXED_FIRING_BYTES,
+                                      out, sizeof out);
+    return answer;
 }
 
 /* One number of the good book changed: what settling it answers, and writing its head or its points. */
@@ -194,8 +209,9 @@ static const struct change changes[] = {
     { MIXED_FIRING + TEMBUYAS_MIXED_FIRING_SHARE, 2, 1001, TEMBUYAS_SHARE, 0, TEMBUYAS_SHARE },
     { MIXED_FIRING + TEMBUYAS_MIXED_FIRING_SHARE, 2, 65535, TEMBUYAS_SHARE, 0, TEMBUYAS_SHARE },
     { CONSUMER + TEMBUYAS_CONSUMER_READING(30, 47), 4, 1000000000, 0, 0, 0 },
-    { CONSUMER + TEMBUYAS_CONSUMER_READING(30, 47), 4, 1000000001, TEMBUYAS_READING, 0, TEMBUYAS_READING },
-    { GENERATOR + TEMBUYAS_GENERATOR_READING(5), 4, 1000000001, TEMBUYAS_READING, 0, TEMBUYAS_READING },
+    { CONSUMER + TEMBUYAS_CONSUMER_READING(0, 0), 4, 1000000001, TEMBUYAS_READING, 0, TEMBUYAS_READING },
+    { GENERATOR + TEMBUYAS_GENERATOR_READING(0), 4, 1000000001, TEMBUYAS_READING, 0, TEMBUYAS_READING },
+    { MIXED_FIRING + TEMBUYAS_MIXED_FIRING_OUTSIDE_READING(0), 4, 1000000001, TEMBUYAS_READING, 0, TEMBUYAS_READING },
 };
 
 static void try_changes(void)
@@ -212,10 +228,11 @@ static void try_changes(void)
 }
 
 /* Each of a plant's twelve readings at its limit and above it, and above it with a share above its own: 50 is told in
- * the place of 16, behind 14 and before 17. */
+ * the place of 16, behind 14 and before 51, and with no index. */
 static void try_mixed_firing(void)
 {
     for (int i = 0; i < 12; i++) {
+        char words[READING_WORDS];
         uint8_t *plant = book + MIXED_FIRING;
         uint8_t *reading = plant + (i < 6 ? TEMBUYAS_MIXED_FIRING_OUTSIDE_READING(i)
                                           : TEMBUYAS_MIXED_FIRING_INSIDE_READING(i - 6));
@@ -224,15 +241,52 @@ static void try_mixed_firing(void)
         check(settled(BOOK), TEMBUYAS_ACCEPTED, "a plant's reading at the limit");
         put(reading, 4, 1000000001);
         check(settled(BOOK), TEMBUYAS_READING, "a plant's reading above the limit");
-        check(points_written(), TEMBUYAS_READING, "a plant's reading above the limit, written");
+        snprintf(words, sizeof words, "reading %d, slot %d of the window, %s the tariff", i, i % 6,
+                 i < 6 ? "outside" : "inside");
+        check_reading(points_written(), TEMBUYAS_TAG_MIXED_FIRING, TEMBUYAS_READING, (uint32_t)i, words);
         put(plant + TEMBUYAS_MIXED_FIRING_SHARE, 2, 1001);
-        check(settled(BOOK), TEMBUYAS_SHARE, "50 before 17");
-        check(points_written(), TEMBUYAS_SHARE, "50 before 17, written");
+        check(settled(BOOK), TEMBUYAS_SHARE, "50 before 51");
+        check(points_written(), TEMBUYAS_SHARE, "50 before 51, written");
     }
     book[MIXED_FIRING + TEMBUYAS_NUMBER + 21] = '2';
     check(settled(BOOK), TEMBUYAS_NUMBER_NOT_ABOVE, "15 before 50");
     book[MIXED_FIRING + TEMBUYAS_NUMBER + 21] = ' ';
     check(points_written(), TEMBUYAS_POINT_NUMBER, "14 before 50");
+}
+
+/* The first large reading of a consumer: on the test day and on the days back, then on both, where the lower index is
+ * told. Each reading is above the limit in turn, from the last one down to the first. */
+static void try_consumer_readings(void)
+{
+    memcpy(book, good, sizeof book);
+    for (int index = 48 * 31 - 1; index >= 0; index--) {
+        int day = index / 48, half_hour = index % 48;
+        uint32_t due = day == 0 ? TEMBUYAS_READING : TEMBUYAS_READING_BACK;
+        char words[READING_WORDS];
+        char of_day[20] = "test day";
+        if (day > 0)
+            snprintf(of_day, sizeof of_day, "day %d back", day);
+        snprintf(words, sizeof words, "reading %d, %s from %d:%s", index, of_day, half_hour / 2,
+                 half_hour % 2 ? "30" : "00");
+        put(book + CONSUMER + TEMBUYAS_CONSUMER_READING(day, half_hour), 4, 1000000001);
+        check(settled(BOOK), due, "a consumer's readings above the limit");
+        check_reading(points_written(), TEMBUYAS_TAG_CONSUMER, due, (uint32_t)index, words);
+    }
+    book[CONSUMER + TEMBUYAS_CONSUMER_CLASS] = 4;
+    check(points_written(), TEMBUYAS_CLASS_OR_BASELINE, "16 before 51, with no index");
+}
+
+/* The same of a generator, whose readings have 51 alone. */
+static void try_generator_readings(void)
+{
+    memcpy(book, good, sizeof book);
+    for (int slot = 5; slot >= 0; slot--) {
+        char words[READING_WORDS];
+        snprintf(words, sizeof words, "reading %d, slot %d of the window", slot, slot);
+        put(book + GENERATOR + TEMBUYAS_GENERATOR_READING(slot), 4, 1000000001);
+        check(settled(BOOK), TEMBUYAS_READING, "a generator's readings above the limit");
+        check_reading(points_written(), TEMBUYAS_TAG_GENERATOR, TEMBUYAS_READING, (uint32_t)slot, words);
+    }
 }
 
 /* What is not a number at a place. */
@@ -263,6 +317,8 @@ int main(void)
 {
     try_good_book();
     try_changes();
+    try_consumer_readings();
+    try_generator_readings();
     try_mixed_firing();
     try_lengths();
     if (!failures)

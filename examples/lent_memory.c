@@ -195,10 +195,10 @@ static void try_writing_point(uint8_t tag, size_t right)
         const uint8_t *lent = only_read(values, value, length, 1);
         for (size_t room = right; room < right + 8; room++) {
             uint8_t *out = to_write(outs, room, 1);
-            uint32_t refusal = tembuyas_write_point(tag, lent, length, out, room);
+            uint64_t answer = tembuyas_write_point(tag, lent, length, out, room);
             size_t written = length == right && room >= 3 + right ? 3 + right : 0;
             uint32_t due = written ? TEMBUYAS_ACCEPTED : TEMBUYAS_LENT_BYTES;
-            check(refusal == (length == right ? due : TEMBUYAS_POINT_LENGTH), "a point has one length, and 3 more");
+            check(answer == (length == right ? due : TEMBUYAS_POINT_LENGTH), "a point has one length, and 3 more");
             check(!written || (out[0] == tag && out[1] == right / 256 && out[2] == right % 256), "tag and length");
             check(!written || !memcmp(out + 3, value, right), "the value is written as it is");
             check(rest_is_filled(outs, out, written), "bytes behind a point keep their values");

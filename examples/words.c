@@ -1,6 +1,7 @@
-/* A refusal in words, and one word of a result. */
+/* A refusal and a reading in words, and one word of a result. */
 #include "words.h"
 
+#include <stdio.h>
 #include <string.h>
 
 const char *refusal_in_words(uint32_t refusal)
@@ -20,7 +21,6 @@ const char *refusal_in_words(uint32_t refusal)
     case TEMBUYAS_POINT_NUMBER: return "a point number is not 22 digits, or not issued yet";
     case TEMBUYAS_NUMBER_NOT_ABOVE: return "point numbers do not rise";
     case TEMBUYAS_CLASS_OR_BASELINE: return "a voltage class or a generator's baseline is not allowed";
-    case TEMBUYAS_READING: return "a reading is above 1,000,000,000 Wh";
     case TEMBUYAS_TOO_FEW_DAYS: return "a consumer has fewer than four days for its baseline";
     case TEMBUYAS_COUNT_NOT_REACHED: return "the book has fewer points than its head says";
     case TEMBUYAS_BOOK_CUT: return "the book ends within a field or before its calendar";
@@ -28,8 +28,29 @@ const char *refusal_in_words(uint32_t refusal)
     case TEMBUYAS_WRONG_TAG: return "the head or the calendar is not where it belongs";
     case TEMBUYAS_BYTES_AFTER: return "bytes follow the last point";
     case TEMBUYAS_SHARE: return "a biomass share is above 100.0 percent";
+    case TEMBUYAS_READING: return "a reading of the test day or of a generating point is above 1,000,000,000 Wh";
+    case TEMBUYAS_READING_BACK: return "a reading of a consumer's days back is above 1,000,000,000 Wh";
     default: return "a refusal that this screen does not know";
     }
+}
+
+const char *reading_in_words(char text[READING_WORDS], uint8_t tag, uint64_t answer)
+{
+    uint32_t refusal = TEMBUYAS_REFUSAL(answer);
+    unsigned index = TEMBUYAS_INDEX(answer);
+    unsigned half_hour = TEMBUYAS_HALF_HOUR(index);
+    text[0] = 0;
+    if (refusal != TEMBUYAS_READING && refusal != TEMBUYAS_READING_BACK)
+        return text;
+    if (refusal == TEMBUYAS_READING_BACK)
+        snprintf(text, READING_WORDS, "reading %u, day %u back from %u:%02u", index, TEMBUYAS_DAY_BACK(index),
+                 half_hour / 2, half_hour % 2 * 30);
+    else if (tag == TEMBUYAS_TAG_CONSUMER)
+        snprintf(text, READING_WORDS, "reading %u, test day from %u:%02u", index, half_hour / 2, half_hour % 2 * 30);
+    else
+        snprintf(text, READING_WORDS, "reading %u, slot %u of the window%s", index, TEMBUYAS_SLOT(index),
+                 tag == TEMBUYAS_TAG_GENERATOR ? "" : index < 6 ? ", outside the tariff" : ", inside the tariff");
+    return text;
 }
 
 int64_t result_word(const uint8_t result[TEMBUYAS_RESULT_BYTES], enum tembuyas_word word)

@@ -41,9 +41,10 @@ static void fill_generator(uint8_t value[TEMBUYAS_GENERATOR_BYTES])
         put(value + TEMBUYAS_GENERATOR_READING(slot), 4, 550000);
 }
 
-static int refused(const char *what, uint32_t refusal)
+static int refused(const char *what, uint32_t refusal, const char *reading)
 {
-    fprintf(stderr, "write_book: %s: refused %" PRIu32 ": %s\n", what, refusal, refusal_in_words(refusal));
+    fprintf(stderr, "write_book: %s: refused %" PRIu32 ": %s%s%s\n", what, refusal, refusal_in_words(refusal),
+            *reading ? ": " : "", reading);
     return 1;
 }
 
@@ -58,12 +59,15 @@ int main(void)
 
     uint32_t refusal = tembuyas_write_head(head, sizeof head, calendar, sizeof calendar, field, sizeof field);
     if (refusal)
-        return refused("head", refusal);
+        return refused("head", refusal, "");
     fwrite(field, 1, TEMBUYAS_WRITTEN_HEAD_BYTES, stdout);
 
-    refusal = tembuyas_write_point(TEMBUYAS_TAG_GENERATOR, generator, sizeof generator, field, sizeof field);
-    if (refusal)
-        return refused("generator", refusal);
+    uint64_t answer = tembuyas_write_point(TEMBUYAS_TAG_GENERATOR, generator, sizeof generator, field, sizeof field);
+    if (answer) {
+        char text[READING_WORDS];
+        const char *reading = reading_in_words(text, TEMBUYAS_TAG_GENERATOR, answer);
+        return refused("generator", TEMBUYAS_REFUSAL(answer), reading);
+    }
     fwrite(field, 1, TEMBUYAS_WRITTEN_GENERATOR_BYTES, stdout);
 
     if (fflush(stdout) || ferror(stdout)) {

@@ -6,9 +6,10 @@
  *     cc -Iinclude program.c target/staticlib/libtembuyas.a
  *
  * Answers. Every function answers 0 (accepted) or the number of the one refusal due to its input: where several are
- * due, the first in the order that stands at the function. A refused call changes no lent byte. An accepted call writes
- * the bytes named at the function and no others. This is proved for every input (crates/tembuyas/src/lib.rt has the
- * contracts); the compiler's step to machine code and your own program are outside the proofs.
+ * due, the first in the order that stands at the function. tembuyas_write_point gives beside it the index of a reading
+ * that is too large. A refused call changes no lent byte. An accepted call writes the bytes named at the function and
+ * no others. This is proved for every input (crates/tembuyas/src/lib.rt has the contracts); the compiler's step to
+ * machine code and your own program are outside the proofs.
  *
  * Memory. A pointer and the length behind it lend that many bytes for the time of the call. Nothing is kept, allocated
  * or freed. Books and values are only read.
@@ -33,7 +34,7 @@ extern "C" {
 
 /* The version of this header: one higher with every change of a size, a place, a tag, a refusal, a word or a function.
  * The archive has no version of its own; take both from the same commit. */
-#define TEMBUYAS_VERSION 2
+#define TEMBUYAS_VERSION 3
 
 /* ---- The test book --------------------------------------------------------------------------------------------------
  *
@@ -142,7 +143,6 @@ enum tembuyas_refusal {
     TEMBUYAS_POINT_NUMBER = 14,      /* number not 22 digits, or all nines */
     TEMBUYAS_NUMBER_NOT_ABOVE = 15,  /* number not above that of the point before */
     TEMBUYAS_CLASS_OR_BASELINE = 16, /* class not 1 to 3, or baseline above 1,000,000 kW */
-    TEMBUYAS_READING = 17,           /* a reading above 1,000,000,000 Wh, used or not */
     TEMBUYAS_TOO_FEW_DAYS = 18,      /* a consumer with fewer than four days for its baseline */
     /* books and lent bytes */
     TEMBUYAS_COUNT_NOT_REACHED = 20, /* the book ends where a further point is due */
@@ -151,8 +151,25 @@ enum tembuyas_refusal {
     TEMBUYAS_WRONG_TAG = 41,         /* head (tag 1) or calendar (tag 2) not where it belongs */
     TEMBUYAS_BYTES_AFTER = 42,       /* bytes after the last point */
     /* mixed-firing plants */
-    TEMBUYAS_SHARE = 50              /* a biomass share above 1,000 (100.0 percent); told in the place of 16 */
+    TEMBUYAS_SHARE = 50,             /* a biomass share above 1,000 (100.0 percent); told in the place of 16 */
+    /* readings above 1,000,000,000 Wh, used or not, by the first of them; 17, once told of both, no longer comes */
+    TEMBUYAS_READING = 51,           /* one of a consumer's test day, or any of a generator or a mixed-firing plant */
+    TEMBUYAS_READING_BACK = 52       /* one of a consumer's days back; none of its test day is above the limit */
 };
+
+/* The answer of tembuyas_write_point is two numbers in one of 64 bits: the refusal in the low 32, the index in the high
+ * 32. The index is that of the first reading above the limit, counted from 0 in the order of the value; class, baseline
+ * and share are not counted. It is 0 with every refusal but 51 and 52, and where the point is accepted: so an accepted
+ * answer is 0, and a program that keeps 32 bits of the answer has the refusal. */
+#define TEMBUYAS_REFUSAL(answer) ((uint32_t)(answer))
+#define TEMBUYAS_INDEX(answer) ((uint32_t)((uint64_t)(answer) >> 32))
+
+/* The reading of an index: a consumer's day back (0 is the test day) and half-hour of that day, and so
+ * TEMBUYAS_CONSUMER_READING of both is its place; of the other kinds the slot of the window, 0 to 5. A plant's readings
+ * 0 to 5 are those outside the tariff, 6 to 11 those inside it. */
+#define TEMBUYAS_DAY_BACK(index) ((index) / 48)
+#define TEMBUYAS_HALF_HOUR(index) ((index) % 48)
+#define TEMBUYAS_SLOT(index) ((index) % 6)
 
 /* ---- Functions --------------------------------------------------------------------------------------------------- */
 
@@ -165,7 +182,7 @@ enum tembuyas_refusal {
  *   2 to 8           what head and calendar hold
  *   then for each point
  *   20, 31, 11, 12, 31                  its field: no byte left, under three bytes left, tag, length, value cut
- *   14, 15, 16 or 50 by kind, 17, 18    its value
+ *   14, 15, 16 or 50, 51 or 52, 18      its value
  *   and behind the last point
  *   42               a byte is left */
 uint32_t tembuyas_settle_book(const uint8_t *book, size_t book_length, uint8_t *result, size_t result_length);
@@ -180,9 +197,10 @@ uint32_t tembuyas_write_head(const uint8_t *head, size_t head_length, const uint
 /* Writes the field of one point, from its tag and value. Accepted: the first 3 + value_length bytes of out are written
  * (5,978 for a consumer, 53 for a generator, 75 for a mixed-firing plant); bytes behind them keep their values.
  *
- * Refusals, in this order: 11, 12, 14, 16 or 50 by kind, 17; then 40, out_length too small. The order of numbers (15),
- * the days of a consumer (18) and the number of points (20, 42) are seen only when the book is settled. */
-uint32_t tembuyas_write_point(uint8_t tag, const uint8_t *value, size_t value_length, uint8_t *out, size_t out_length);
+ * Refusals, in this order: 11, 12, 14, 16 or 50 by kind, 51 or 52 by the first reading above the limit; then 40,
+ * out_length too small. The order of numbers (15), the days of a consumer (18) and the number of points (20, 42) are
+ * seen only when the book is settled. The index of a reading stands above the refusal (TEMBUYAS_INDEX). */
+uint64_t tembuyas_write_point(uint8_t tag, const uint8_t *value, size_t value_length, uint8_t *out, size_t out_length);
 
 #ifdef __cplusplus
 }

@@ -3,6 +3,7 @@ ghost use mathlib.Core.Path.{_≡_};
 ghost use Prim.Native.Nat.{_+_, _*_, _≤_, _<_};
 ghost use lib.ListN.{length};
 ghost use Rattle.numbers.specs.PointNumbers.{numberLength};
+ghost use Rattle.readings.specs.Readings.{readingCount};
 ghost use Rattle.points.specs.Points.{consumerLength, generatorLength, mixedFiringLength};
 use ledger::State;
 use numbers::DAYS_BACK;
@@ -118,6 +119,13 @@ pub fn put_low_days(value: &mut [u8])
 {
     put_readings(&mut value[511..535], WINDOW_SLOTS, 1080);
     put_readings(&mut value[1279..1303], WINDOW_SLOTS, 200);
+}
+
+// A consumer's reading one Wh above the limit.
+pub fn put_large(value: &mut [u8], index: usize)
+    requires { ⌜ (length (now value) ≡ consumerLength) × (index < readingCount) ⌝ }
+{
+    put_word(value, CONSUMER_READINGS_AT + index * 4, 1000000001);
 }
 
 // A generator: its baseline in kW, the first reading and the same reading in the five other slots.

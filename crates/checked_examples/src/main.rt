@@ -1,10 +1,11 @@
-// Runs the checked examples of document 01, and some of CR 1 and CR 2, through the operations and prints each with the paper's value,
+// Runs the checked examples of document 01, and some of CR 1, CR 2 and CR 3, through the operations and prints each with the paper's value,
 // or one worked out by hand, beside it.
 // Those with a star are proved too, of the definitions; here they are seen once in a running program.
 mod adding;
 mod closing;
 mod days;
 mod handed;
+mod large;
 mod opening;
 mod plants;
 mod text;
@@ -23,6 +24,7 @@ fn main() {
     opening::examples();
     adding::examples();
     days::examples();
+    large::examples();
     plants::examples();
     closing::examples();
     empty_book();

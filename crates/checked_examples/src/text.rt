@@ -23,6 +23,12 @@ pub fn refusal(value: u32) {
     number(value as u64);
 }
 
+// That of the reading which is told.
+pub fn index(value: u32) {
+    put(b" index ");
+    number(value as u64);
+}
+
 pub fn results(list: &[i64]) {
     let mut i: usize = 0;
     while i < list.len() {

@@ -1,21 +1,19 @@
 -- Kinds of point by their tags, and what a point of the right form or with allowed values shows. Assumes nothing.
 use mathlib.Core.Path.{_≡_, refl, ap}
-use mathlib.Core.Bool.{Bool, true, false, cond, _&&_, _||_}
+use mathlib.Core.Bool.{Bool, true, false, cond, _||_}
 use mathlib.Core.List.{List}
 use Prim.Native.Nat.{ℕ, _+_, _*_, _≤_, _<_}
 use native.Mathlib.Omega.{arith}
-use lib.Dec.{T, eqb, ltb, lt→ltb}
-use mir.Facts.{yes-and}
-use borrow.Author.Tests.{eqb-true, not-false, ne-eqb}
+use lib.Dec.{T, eqb}
+use borrow.Author.Tests.{eqb-true, not-false, ne-eqb, lt-ltb}
 use Rattle.numbers.specs.Lists.{any}
 use Rattle.numbers.specs.Refusals.{firstOf}
 use Rattle.numbers.proofs.Refusals.{numbered, clear, untold}
 use Rattle.numbers.proofs.Tests.{noneOf}
 use Rattle.numbers.specs.PointNumbers.{numberLength}
-use Rattle.numbers.specs.Slots.{slotsOfDay}
 use Rattle.readings.specs.Readings.{readingLength}
 use Rattle.points.specs.Points.{consumerTag, generatorTag, mixedFiringTag, consumerLength, Kind, consumer, generator, mixedFiring, unknown, kindOf}
-use Rattle.points.specs.Points.{isUnknown, sizeOf, readingsAt, readingsIn, isUnfit, largeAt, hasLarge, unfitNumber, largeNumber, isOfReading, formRows, unfitRow, valueRows}
+use Rattle.points.specs.Points.{isUnknown, sizeOf, readingsAt, readingsIn, isUnfit, largeAt, hasLarge, unfitNumber, isOfTestDay, largeNumber, isOfReading, formRows, unfitRow, valueRows}
 
 module _ (tag : ℕ) where
   -- the kind of a tag that is some number: at the number of a kind it computes
@@ -69,7 +67,7 @@ unfit-other unknown = refl
 
 -- that of a large reading is 51 or 52
 pub large-number : (kind : Kind) (index : ℕ) → (50 < largeNumber kind index) × (isOfReading (largeNumber kind index) ≡ true)
-large-number consumer index = go (ltb index slotsOfDay)
+large-number consumer index = go (isOfTestDay index)
   where
     go : (test-day : Bool) → (50 < cond test-day 51 52) × (isOfReading (cond test-day 51 52) ≡ true)
     go true = (omega arith, refl)
@@ -112,12 +110,10 @@ module _ (tag : ℕ) (value : List ℕ) where
 
   -- none of them is 0
   pub unfit-numbered : T (numbered (unfitRow tag value))
-  unfit-numbered = yes-and (ltb 0 unfit) true (lt→ltb 0 unfit (omega (arith, rows-above .0))) tt
+  unfit-numbered = rw (lt-ltb 0 unfit (omega (arith, rows-above .0))) tt
 
   pub values-numbered : T (numbered (valueRows tag value))
-  values-numbered =
-      yes-and (ltb 0 unfit) (ltb 0 large && true) (lt→ltb 0 unfit (omega (arith, rows-above .0)))
-      (yes-and (ltb 0 large) true (lt→ltb 0 large (omega (arith, rows-above .1))) tt)
+  values-numbered = rw (lt-ltb 0 unfit (omega (arith, rows-above .0)), lt-ltb 0 large (omega (arith, rows-above .1))) tt
 
   -- nor that of a row before it
   pub values-above : (n : ℕ) → n ≤ 15 → T (noneOf (λ row. eqb (row .1) n) (valueRows tag value))

@@ -17,7 +17,7 @@ use Rattle.numbers.proofs.NeverTold.{Without, told-within}
 use Rattle.readings.specs.Readings.{readingLength, mostReading, firstLarge}
 use Rattle.readings.proofs.Large.{first-bound, none-large, first-is-large, first-is-first}
 use Rattle.points.specs.Points.{Kind, consumer, consumerTag, kindOf, readingsAt, readingsOf, readingsIn, isUnfit, largeAt, hasLarge}
-use Rattle.points.specs.Points.{unfitNumber, largeNumber, valueRows, isOfReading, indexTold}
+use Rattle.points.specs.Points.{unfitNumber, isOfTestDay, largeNumber, valueRows, isOfReading, indexTold}
 use Rattle.points.specs.TooLarge.{readingAt, IsFirstLarge, TellsReading}
 use Rattle.points.proofs.PointKinds.{of-tag, isAboutReading, unfit-other, large-number, large-other, values-numbered, all-small}
 
@@ -50,11 +50,11 @@ module _ (kind : Kind) (value : List ℕ) where
 -- ---- the number, by the index
 
 of-consumer : (index number : ℕ) → largeNumber consumer index ≡ number → (number ≡ 51 → index < slotsOfDay) × (number ≡ 52 → slotsOfDay ≤ index)
-of-consumer index number e = go (ltb index slotsOfDay) refl e
+of-consumer index number e = go (isOfTestDay index) refl e
   where
-    go : (t : Bool) → ltb index slotsOfDay ≡ t → cond t 51 52 ≡ number → (number ≡ 51 → index < slotsOfDay) × (number ≡ 52 → slotsOfDay ≤ index)
-    go true p e = (λ z. ltb-true _ _ p, λ z. absurd (omega arith))
-    go false p e = (λ z. absurd (omega arith), λ z. ltb-false _ _ p)
+    go : (t : Bool) → isOfTestDay index ≡ t → cond t 51 52 ≡ number → (number ≡ 51 → index < slotsOfDay) × (number ≡ 52 → slotsOfDay ≤ index)
+    go true p e = (λ z. ltb-true index slotsOfDay p, λ z. absurd (omega arith))
+    go false p e = (λ z. absurd (omega arith), λ z. ltb-false index slotsOfDay p)
 
 -- ---- a table with the rows of a value in it
 

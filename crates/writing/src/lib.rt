@@ -75,9 +75,9 @@ pub fn write_point(tag: u8, value: &[u8], out: &mut [u8]) -> Refusal
     ensures answer { λ r. ⌜ r ≡ pointWritingAnswer tag (now (value .entry)) (length (now (out .entry))) ⌝ }
     ensures lent { λ _. ⌜ now (out .exit) ≡ pointWritingOut tag (now (value .entry)) (now (out .entry)) ⌝ }
 {
-    let refusal = point_refusal(tag, value);
-    if refusal.number != refusals::ACCEPTED {
-        return refusal;
+    let answer = point_refusal(tag, value);
+    if answer.number != refusals::ACCEPTED {
+        return answer;
     }
     if out.len() < HEADER_LENGTH + value.len() {
         return Refusal {
