@@ -209,9 +209,9 @@ static const struct change changes[] = {
     { MIXED_FIRING + TEMBUYAS_MIXED_FIRING_SHARE, 2, 1001, TEMBUYAS_SHARE, 0, TEMBUYAS_SHARE },
     { MIXED_FIRING + TEMBUYAS_MIXED_FIRING_SHARE, 2, 65535, TEMBUYAS_SHARE, 0, TEMBUYAS_SHARE },
     { CONSUMER + TEMBUYAS_CONSUMER_READING(30, 47), 4, 1000000000, 0, 0, 0 },
-    { CONSUMER + TEMBUYAS_CONSUMER_READING(0, 0), 4, 1000000001, TEMBUYAS_READING, 0, TEMBUYAS_READING },
-    { GENERATOR + TEMBUYAS_GENERATOR_READING(0), 4, 1000000001, TEMBUYAS_READING, 0, TEMBUYAS_READING },
-    { MIXED_FIRING + TEMBUYAS_MIXED_FIRING_OUTSIDE_READING(0), 4, 1000000001, TEMBUYAS_READING, 0, TEMBUYAS_READING },
+    { CONSUMER + TEMBUYAS_CONSUMER_READING(0, 0), 4, 1000000001, TEMBUYAS_READING_TEST_DAY, 0, TEMBUYAS_READING_TEST_DAY },
+    { GENERATOR + TEMBUYAS_GENERATOR_READING(0), 4, 1000000001, TEMBUYAS_READING_TEST_DAY, 0, TEMBUYAS_READING_TEST_DAY },
+    { MIXED_FIRING + TEMBUYAS_MIXED_FIRING_OUTSIDE_READING(0), 4, 1000000001, TEMBUYAS_READING_TEST_DAY, 0, TEMBUYAS_READING_TEST_DAY },
 };
 
 static void try_changes(void)
@@ -240,10 +240,10 @@ static void try_mixed_firing(void)
         put(reading, 4, 1000000000);
         check(settled(BOOK), TEMBUYAS_ACCEPTED, "a plant's reading at the limit");
         put(reading, 4, 1000000001);
-        check(settled(BOOK), TEMBUYAS_READING, "a plant's reading above the limit");
-        snprintf(words, sizeof words, "reading %d, slot %d of the window, %s the tariff", i, i % 6,
+        check(settled(BOOK), TEMBUYAS_READING_TEST_DAY, "a plant's reading above the limit");
+        snprintf(words, sizeof words, "reading %d, slot %d of the window, %s the tariff", i, i % 6 + 1,
                  i < 6 ? "outside" : "inside");
-        check_reading(points_written(), TEMBUYAS_TAG_MIXED_FIRING, TEMBUYAS_READING, (uint32_t)i, words);
+        check_reading(points_written(), TEMBUYAS_TAG_MIXED_FIRING, TEMBUYAS_READING_TEST_DAY, (uint32_t)i, words);
         put(plant + TEMBUYAS_MIXED_FIRING_SHARE, 2, 1001);
         check(settled(BOOK), TEMBUYAS_SHARE, "50 before 51");
         check(points_written(), TEMBUYAS_SHARE, "50 before 51, written");
@@ -261,7 +261,7 @@ static void try_consumer_readings(void)
     memcpy(book, good, sizeof book);
     for (int index = 48 * 31 - 1; index >= 0; index--) {
         int day = index / 48, half_hour = index % 48;
-        uint32_t due = day == 0 ? TEMBUYAS_READING : TEMBUYAS_READING_BACK;
+        uint32_t due = day == 0 ? TEMBUYAS_READING_TEST_DAY : TEMBUYAS_READING_DAYS_BACK;
         char words[READING_WORDS];
         char of_day[20] = "test day";
         if (day > 0)
@@ -272,8 +272,12 @@ static void try_consumer_readings(void)
         check(settled(BOOK), due, "a consumer's readings above the limit");
         check_reading(points_written(), TEMBUYAS_TAG_CONSUMER, due, (uint32_t)index, words);
     }
+    check_reading(tembuyas_write_point(3, book + CONSUMER, TEMBUYAS_CONSUMER_BYTES, NULL, 0), TEMBUYAS_TAG_CONSUMER,
+                  TEMBUYAS_READING_TEST_DAY, 0, "reading 0, test day from 0:00"); /* before 40 */
     book[CONSUMER + TEMBUYAS_CONSUMER_CLASS] = 4;
     check(points_written(), TEMBUYAS_CLASS_OR_BASELINE, "16 before 51, with no index");
+    book[CONSUMER + TEMBUYAS_NUMBER] = ' ';
+    check(points_written(), TEMBUYAS_POINT_NUMBER, "14 before 51, with no index");
 }
 
 /* The same of a generator, whose readings have 51 alone. */
@@ -282,10 +286,10 @@ static void try_generator_readings(void)
     memcpy(book, good, sizeof book);
     for (int slot = 5; slot >= 0; slot--) {
         char words[READING_WORDS];
-        snprintf(words, sizeof words, "reading %d, slot %d of the window", slot, slot);
+        snprintf(words, sizeof words, "reading %d, slot %d of the window", slot, slot + 1);
         put(book + GENERATOR + TEMBUYAS_GENERATOR_READING(slot), 4, 1000000001);
-        check(settled(BOOK), TEMBUYAS_READING, "a generator's readings above the limit");
-        check_reading(points_written(), TEMBUYAS_TAG_GENERATOR, TEMBUYAS_READING, (uint32_t)slot, words);
+        check(settled(BOOK), TEMBUYAS_READING_TEST_DAY, "a generator's readings above the limit");
+        check_reading(points_written(), TEMBUYAS_TAG_GENERATOR, TEMBUYAS_READING_TEST_DAY, (uint32_t)slot, words);
     }
 }
 

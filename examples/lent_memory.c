@@ -209,6 +209,28 @@ static void try_writing_point(uint8_t tag, size_t right)
     free_pages(outs);
 }
 
+/* A point whose last reading is above the limit: the index is told, and nothing is written. */
+static void try_large_reading(uint8_t tag, size_t right, uint64_t index)
+{
+    struct pages values = new_pages(right), outs = new_pages(right + 3);
+    uint8_t *value = calloc(1, right);
+    if (!value)
+        exit(1);
+    memset(value, '0', TEMBUYAS_NUMBER_BYTES);
+    if (tag == TEMBUYAS_TAG_CONSUMER)
+        value[TEMBUYAS_CONSUMER_CLASS] = TEMBUYAS_CLASS_LOW;
+    memset(value + right - 4, 0xff, 4);
+    const uint8_t *lent = only_read(values, value, right, 1);
+    uint8_t *out = to_write(outs, right + 3, 1);
+    uint64_t answer = tembuyas_write_point(tag, lent, right, out, right + 3);
+    uint64_t due = tag == TEMBUYAS_TAG_CONSUMER ? TEMBUYAS_READING_DAYS_BACK : TEMBUYAS_READING_TEST_DAY;
+    check(answer == (index << 32 | due), "the last reading is told");
+    check(rest_is_filled(outs, out, 0), "a point with a large reading is not written");
+    free(value);
+    free_pages(values);
+    free_pages(outs);
+}
+
 /* A calendar that begins within the head: no losses, contract 0, count 1, which are also marks. */
 static void try_overlap(void)
 {
@@ -273,6 +295,9 @@ int main(void)
     try_writing_point(TEMBUYAS_TAG_CONSUMER, TEMBUYAS_CONSUMER_BYTES);
     try_writing_point(TEMBUYAS_TAG_GENERATOR, TEMBUYAS_GENERATOR_BYTES);
     try_writing_point(TEMBUYAS_TAG_MIXED_FIRING, TEMBUYAS_MIXED_FIRING_BYTES);
+    try_large_reading(TEMBUYAS_TAG_CONSUMER, TEMBUYAS_CONSUMER_BYTES, 1487);
+    try_large_reading(TEMBUYAS_TAG_GENERATOR, TEMBUYAS_GENERATOR_BYTES, 5);
+    try_large_reading(TEMBUYAS_TAG_MIXED_FIRING, TEMBUYAS_MIXED_FIRING_BYTES, 11);
     try_overlap();
     try_threads(book, length, due);
     free(book);

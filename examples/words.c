@@ -28,8 +28,8 @@ const char *refusal_in_words(uint32_t refusal)
     case TEMBUYAS_WRONG_TAG: return "the head or the calendar is not where it belongs";
     case TEMBUYAS_BYTES_AFTER: return "bytes follow the last point";
     case TEMBUYAS_SHARE: return "a biomass share is above 100.0 percent";
-    case TEMBUYAS_READING: return "a reading of the test day or of a generating point is above 1,000,000,000 Wh";
-    case TEMBUYAS_READING_BACK: return "a reading of a consumer's days back is above 1,000,000,000 Wh";
+    case TEMBUYAS_READING_TEST_DAY: return "a reading of the test day or of a generating point is above 1,000,000,000 Wh";
+    case TEMBUYAS_READING_DAYS_BACK: return "a reading of a consumer's days back is above 1,000,000,000 Wh";
     default: return "a refusal that this screen does not know";
     }
 }
@@ -38,17 +38,17 @@ const char *reading_in_words(char text[READING_WORDS], uint8_t tag, uint64_t ans
 {
     uint32_t refusal = TEMBUYAS_REFUSAL(answer);
     unsigned index = TEMBUYAS_INDEX(answer);
-    unsigned half_hour = TEMBUYAS_HALF_HOUR(index);
+    unsigned half_hour = TEMBUYAS_INDEX_HALF_HOUR(index);
     text[0] = 0;
-    if (refusal != TEMBUYAS_READING && refusal != TEMBUYAS_READING_BACK)
+    if (refusal != TEMBUYAS_READING_TEST_DAY && refusal != TEMBUYAS_READING_DAYS_BACK)
         return text;
-    if (refusal == TEMBUYAS_READING_BACK)
-        snprintf(text, READING_WORDS, "reading %u, day %u back from %u:%02u", index, TEMBUYAS_DAY_BACK(index),
+    if (refusal == TEMBUYAS_READING_DAYS_BACK)
+        snprintf(text, READING_WORDS, "reading %u, day %u back from %u:%02u", index, TEMBUYAS_INDEX_DAY_BACK(index),
                  half_hour / 2, half_hour % 2 * 30);
     else if (tag == TEMBUYAS_TAG_CONSUMER)
         snprintf(text, READING_WORDS, "reading %u, test day from %u:%02u", index, half_hour / 2, half_hour % 2 * 30);
-    else
-        snprintf(text, READING_WORDS, "reading %u, slot %u of the window%s", index, TEMBUYAS_SLOT(index),
+    else /* slots are counted from 1 here, as settle_book prints them */
+        snprintf(text, READING_WORDS, "reading %u, slot %u of the window%s", index, TEMBUYAS_INDEX_WINDOW_SLOT(index) + 1,
                  tag == TEMBUYAS_TAG_GENERATOR ? "" : index < 6 ? ", outside the tariff" : ", inside the tariff");
     return text;
 }

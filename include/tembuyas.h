@@ -33,7 +33,8 @@ extern "C" {
 #endif
 
 /* The version of this header: one higher with every change of a size, a place, a tag, a refusal, a word or a function.
- * The archive has no version of its own; take both from the same commit. */
+ * The archive has no version of its own; take both from the same commit. From 2 to 3: tembuyas_write_point answers with
+ * 64 bits, and TEMBUYAS_READING (17) became TEMBUYAS_READING_TEST_DAY and TEMBUYAS_READING_DAYS_BACK (51, 52). */
 #define TEMBUYAS_VERSION 3
 
 /* ---- The test book --------------------------------------------------------------------------------------------------
@@ -153,8 +154,8 @@ enum tembuyas_refusal {
     /* mixed-firing plants */
     TEMBUYAS_SHARE = 50,             /* a biomass share above 1,000 (100.0 percent); told in the place of 16 */
     /* readings above 1,000,000,000 Wh, used or not, by the first of them; 17, once told of both, no longer comes */
-    TEMBUYAS_READING = 51,           /* one of a consumer's test day, or any of a generator or a mixed-firing plant */
-    TEMBUYAS_READING_BACK = 52       /* one of a consumer's days back; none of its test day is above the limit */
+    TEMBUYAS_READING_TEST_DAY = 51,  /* one of a consumer's test day, or any of a generator or a mixed-firing plant */
+    TEMBUYAS_READING_DAYS_BACK = 52  /* one of a consumer's days back; none of its test day is above the limit */
 };
 
 /* The answer of tembuyas_write_point is two numbers in one of 64 bits: the refusal in the low 32, the index in the high
@@ -164,12 +165,12 @@ enum tembuyas_refusal {
 #define TEMBUYAS_REFUSAL(answer) ((uint32_t)(answer))
 #define TEMBUYAS_INDEX(answer) ((uint32_t)((uint64_t)(answer) >> 32))
 
-/* The reading of an index: a consumer's day back (0 is the test day) and half-hour of that day, and so
- * TEMBUYAS_CONSUMER_READING of both is its place; of the other kinds the slot of the window, 0 to 5. A plant's readings
- * 0 to 5 are those outside the tariff, 6 to 11 those inside it. */
-#define TEMBUYAS_DAY_BACK(index) ((index) / 48)
-#define TEMBUYAS_HALF_HOUR(index) ((index) % 48)
-#define TEMBUYAS_SLOT(index) ((index) % 6)
+/* The reading of an index. Of a consumer the day back (0 is the test day) and the half-hour of that day:
+ * TEMBUYAS_CONSUMER_READING of both is its place. Of the other kinds the slot of the window, 0 to 5; of a mixed-firing
+ * plant the indexes 0 to 5 are outside the tariff, 6 to 11 inside it. */
+#define TEMBUYAS_INDEX_DAY_BACK(index) ((index) / 48)
+#define TEMBUYAS_INDEX_HALF_HOUR(index) ((index) % 48)
+#define TEMBUYAS_INDEX_WINDOW_SLOT(index) ((index) % 6)
 
 /* ---- Functions --------------------------------------------------------------------------------------------------- */
 

@@ -86,7 +86,7 @@ impl Account {
         self.points
     }
 
-    /// Adding: gives the point where none of 10 to 18 and 50 fits; refused,
+    /// Adding: gives the point where none of 10 to 18 and 50 to 52 fits; refused,
     /// nothing changes.
     pub fn adding<'a>(&mut self, tag: u8, value: &'a [u8], places: usize) -> Option<Taken<'a>> {
         let terms = self.terms.as_ref()?;

@@ -128,7 +128,8 @@ pub fn written_book(values: &HandedOn) -> Result<Vec<u8>, Refusal> {
     for &(tag, value) in &values.points {
         let begin = book.len();
         book.resize(begin + FRONT_LENGTH + value.len(), 0);
-        where_accepted((write_point(tag, value, &mut book[begin..]), ()))?;
+        let told = write_point(tag, value, &mut book[begin..]);
+        where_accepted((told.refusal, ()))?;
     }
     Ok(book)
 }

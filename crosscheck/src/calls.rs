@@ -3,9 +3,9 @@
 
 pub mod vectors;
 
-use crate::ledger::{add, close, open, Figures, State};
+use crate::ledger::{add, close, open, Added, Figures, State};
 use crate::limits::*;
-use crate::refusals::Refusal;
+use crate::refusals::{Refusal, Told};
 use crate::terms::{Head, Terms};
 use crate::writing::{write_head, write_point};
 use std::fmt::Display;
@@ -130,9 +130,7 @@ impl Call {
             } => {
                 let mut places = places.clone();
                 let added = add(state, *tag, value, &mut places);
-                let (after, days) = (state_text(&added.state), list_text(&added.days));
-                let places = list_text(&places);
-                (added.refusal, format!("{after} days{days} places{places}"))
+                (added.refusal, added_text(&added, &places))
             }
             Call::Closing { state } => {
                 let (refusal, figures) = close(state);
@@ -142,20 +140,18 @@ impl Call {
                 head,
                 calendar,
                 lent,
-            } => written(lent, |lent| write_head(head, calendar, lent)),
+            } => {
+                let mut lent = lent.clone();
+                let refusal = write_head(head, calendar, &mut lent);
+                (refusal, lent_text(&lent))
+            }
             Call::WritingPoint { tag, value, lent } => {
-                written(lent, |lent| write_point(*tag, value, lent))
+                let mut lent = lent.clone();
+                let Told { refusal, index } = write_point(*tag, value, &mut lent);
+                (refusal, format!(" index {index}{}", lent_text(&lent)))
             }
         }
     }
-}
-
-/// The refusal of a writing, and the text of the lent bytes after it.
-fn written(lent: &[u8], write: impl Fn(&mut [u8]) -> Refusal) -> (Refusal, String) {
-    let mut lent = lent.to_vec();
-    let refusal = write(&mut lent);
-    let space = if lent.is_empty() { "" } else { " " };
-    (refusal, format!(" lent{space}{}", hex_text(&lent)))
 }
 
 /// The front of a call, and each part behind it with a length of two bytes.
@@ -188,6 +184,11 @@ fn hex_text(bytes: &[u8]) -> String {
     bytes.iter().map(|byte| format!("{byte:02x}")).collect()
 }
 
+fn lent_text(lent: &[u8]) -> String {
+    let space = if lent.is_empty() { "" } else { " " };
+    format!(" lent{space}{}", hex_text(lent))
+}
+
 fn state_text(state: &State) -> String {
     let Terms { head, marks } = &state.terms;
     let [low, high, extra_high] = head.losses;
@@ -204,6 +205,16 @@ fn state_text(state: &State) -> String {
         state.points,
         list_text(&state.totals),
         hex_text(&state.last),
+    )
+}
+
+fn added_text(added: &Added, places: &[i64]) -> String {
+    format!(
+        " index {}{} days{} places{}",
+        added.index,
+        state_text(&added.state),
+        list_text(&added.days),
+        list_text(places),
     )
 }
 

@@ -76,7 +76,7 @@ impl State {
     }
 }
 
-/// What rules 10 to 18 and 50 look at beside the call's own input.
+/// What rules 10 to 18 and 50 to 52 look at beside the call's own input.
 pub struct Held<'a> {
     /// Head and calendar.
     pub terms: &'a Terms,
@@ -108,13 +108,14 @@ impl Taken<'_> {
     }
 }
 
-/// Rules 10 to 18 of adding, in the paper's order; 50 stands at the place of 16.
+/// Rules 10 to 18 of adding, in the paper's order; 50 stands at the place of 16,
+/// 51 and 52 stand at that of 17.
 pub fn take_point<'a>(
     held: &Held,
     tag: u8,
     value: &'a [u8],
     places: usize,
-) -> Result<(Taken<'a>, [u8; NUMBER_LENGTH]), Refusal> {
+) -> Result<(Taken<'a>, [u8; NUMBER_LENGTH]), Told> {
     refuse_where(held.points >= held.terms.head.count, COUNT_REACHED)?;
     let point = Point::cut(tag, value)?; // 11, 12
     refuse_where(places != WINDOW_SLOTS, PLACES)?;
@@ -122,7 +123,7 @@ pub fn take_point<'a>(
     let number = point.number();
     refuse_where(held.points > 0 && number <= *held.last, NOT_ABOVE_LAST)?;
     point.check_class_baseline_or_share()?; // 16 or 50
-    point.check_readings()?; // 17
+    point.check_readings()?; // 51 or 52
     let taken = match point {
         Point::Consumer(consumer) => {
             Taken::Consumer(consumer, days_of_consumer(held.terms, &consumer)?)
@@ -164,6 +165,8 @@ pub fn open(head: &[u8], calendar: &[u8]) -> (Refusal, State) {
 pub struct Added {
     /// Its refusal.
     pub refusal: Refusal,
+    /// The index of the reading that 51 or 52 concerns, otherwise 0.
+    pub index: u32,
     /// The state with the point, or as it was given.
     pub state: State,
     /// The four days of the point's baseline, or four zeros.
@@ -177,8 +180,9 @@ pub fn add(state: &State, tag: u8, value: &[u8], places: &mut [i64]) -> Added {
             places.copy_from_slice(&results);
             added
         }
-        Err(refusal) => Added {
+        Err(Told { refusal, index }) => Added {
             refusal,
+            index,
             state: *state,
             days: NO_DAYS,
         },
@@ -192,7 +196,7 @@ fn accepted_adding(
     tag: u8,
     value: &[u8],
     places: usize,
-) -> Result<(SlotResults, Added), Refusal> {
+) -> Result<(SlotResults, Added), Told> {
     state.check()?;
     let held = Held {
         terms: &state.terms,
@@ -203,6 +207,7 @@ fn accepted_adding(
     let results = results_of(&state.terms, &taken);
     let added = Added {
         refusal: ACCEPTED,
+        index: NO_INDEX,
         state: state.with_point(number, &results),
         days: taken.days(),
     };

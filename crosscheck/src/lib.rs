@@ -1,6 +1,6 @@
 //! A separate settlement of the effectiveness test ledger.
 //!
-//! Written from document 01 and change requests 1 and 2 alone, so that it can
+//! Written from document 01 and change requests 1 to 3 alone, so that it can
 //! disagree with the product. Each module is one section of document 01; "rule
 //! N" means refusal N.
 

@@ -47,7 +47,7 @@ pub const SLOT_TOTAL_OF_A_POINT: i128 = 4_000_000_000;
 pub const HIGHEST_GENERATOR_BASELINE: u32 = 1_000_000;
 /// The whole, in tenths of a percent: no biomass share is above it (rule 50).
 pub const WHOLE_SHARE: u16 = 1_000;
-/// Highest reading, in Wh (rule 17).
+/// Highest reading, in Wh (rules 51 and 52).
 pub const HIGHEST_READING: u32 = 1_000_000_000;
 
 /// Baselines of consumers are counted in these parts of a Wh.

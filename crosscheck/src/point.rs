@@ -1,5 +1,5 @@
 //! The points of a list as their fields hold them, and rules 11, 12, 14, 16 or
-//! 50, and 17.
+//! 50, and 51 or 52.
 
 use crate::limits::*;
 use crate::refusals::*;
@@ -173,16 +173,43 @@ impl<'a> Point<'a> {
         refuse_where(fits, refusal)
     }
 
-    /// Rule 17: any reading above 1,000,000,000, used or not.
-    pub fn check_readings(&self) -> Result<(), Refusal> {
+    /// The readings in the order of the field.
+    pub fn readings(&self) -> impl Iterator<Item = u32> + 'a {
         let begin = match self {
             Point::Consumer(_) => CONSUMER_READINGS_BEGIN,
             Point::Generator(_) => GENERATOR_READINGS_BEGIN,
             Point::MixedFiring(_) => MIXED_FIRING_READINGS_BEGIN,
         };
-        let mut readings = self.value()[begin..].chunks_exact(READING_LENGTH);
-        let fits = readings.any(|reading| whole_number(reading) > HIGHEST_READING);
-        refuse_where(fits, READING)
+        let readings = self.value()[begin..].chunks_exact(READING_LENGTH);
+        readings.map(whole_number)
+    }
+
+    /// The index of the first reading above 1,000,000,000, used or not, counted
+    /// from 0 in the order of the field.
+    pub fn first_large_reading(&self) -> Option<usize> {
+        let mut readings = self.readings();
+        readings.position(|reading| reading > HIGHEST_READING)
+    }
+
+    /// The number for a large reading: 52 on a consumer's days back, otherwise
+    /// 51.
+    fn refusal_of_reading(&self, index: usize) -> Refusal {
+        match self {
+            Point::Consumer(_) if index >= SLOTS_OF_A_DAY => READING_OF_A_DAY_BACK,
+            _ => READING,
+        }
+    }
+
+    /// Rules 51 and 52, at the place of 17. The first large reading of all
+    /// decides, so that the lower index wins where both cases occur.
+    pub fn check_readings(&self) -> Result<(), Told> {
+        let Some(index) = self.first_large_reading() else {
+            return Ok(());
+        };
+        Err(Told {
+            refusal: self.refusal_of_reading(index),
+            index: index as u32,
+        })
     }
 }
 

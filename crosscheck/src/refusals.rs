@@ -1,8 +1,9 @@
 //! The refusal numbers ("Operations and their refusals"), each named once.
 //!
 //! The rising order of the numbers is the order of each table, but for 50,
-//! which stands at the place of 16, and for the whole book, whose order stands
-//! in `book.rs`.
+//! which stands at the place of 16, for 51 and 52, which stand at that of 17,
+//! and for the whole book, whose order stands in `book.rs`. 17 is given by
+//! nothing.
 
 /// The number a call answers; a refusal is any of them but [`ACCEPTED`].
 pub type Refusal = u32;
@@ -45,8 +46,12 @@ pub const NOT_ABOVE_LAST: Refusal = 15;
 pub const CLASS_OR_BASELINE: Refusal = 16;
 /// Adding: share above 1,000, at the place of 16.
 pub const SHARE: Refusal = 50;
-/// Adding: any reading above 1,000,000,000.
-pub const READING: Refusal = 17;
+/// Adding: the first reading above 1,000,000,000 is one of a consumer's test day
+/// or of a point of another kind; at the place of 17.
+pub const READING: Refusal = 51;
+/// Adding: the first reading above 1,000,000,000 is one of a consumer's days
+/// back; at the place of 17.
+pub const READING_OF_A_DAY_BACK: Refusal = 52;
 /// Adding: fewer than four days.
 pub const TOO_FEW_DAYS: Refusal = 18;
 
@@ -61,6 +66,29 @@ pub const LENT_BYTES: Refusal = 40;
 pub const HEAD_OR_CALENDAR_TAG: Refusal = 41;
 /// Whole book: bytes after the last point.
 pub const BYTES_AFTER_LAST_POINT: Refusal = 42;
+
+/// The index in every answer that concerns no reading.
+pub const NO_INDEX: u32 = 0;
+
+/// What adding and writing a point answer about the point: a number, and the
+/// index of the reading that it concerns (change request 3).
+#[derive(Clone, Copy, Debug, PartialEq, Eq)]
+pub struct Told {
+    /// The number.
+    pub refusal: Refusal,
+    /// The index of the first reading concerned, for 51 and 52.
+    pub index: u32,
+}
+
+impl From<Refusal> for Told {
+    /// A number that concerns no reading.
+    fn from(refusal: Refusal) -> Told {
+        Told {
+            refusal,
+            index: NO_INDEX,
+        }
+    }
+}
 
 /// One line of a table of refusals: `refusal` where it fits.
 ///

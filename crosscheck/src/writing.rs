@@ -21,14 +21,10 @@ fn put(written: &[u8], lent: &mut [u8]) -> Result<(), Refusal> {
     Ok(())
 }
 
-/// The number that a call answers.
-fn answer(outcome: Result<(), Refusal>) -> Refusal {
-    outcome.err().unwrap_or(ACCEPTED)
-}
-
 /// Writes a head with its calendar: 1 to 8, then 40.
 pub fn write_head(head: &[u8], calendar: &[u8], lent: &mut [u8]) -> Refusal {
-    answer(try_write_head(head, calendar, lent))
+    let outcome = try_write_head(head, calendar, lent);
+    outcome.err().unwrap_or(ACCEPTED)
 }
 
 fn try_write_head(head: &[u8], calendar: &[u8], lent: &mut [u8]) -> Result<(), Refusal> {
@@ -38,15 +34,18 @@ fn try_write_head(head: &[u8], calendar: &[u8], lent: &mut [u8]) -> Result<(), R
     put(&written, lent)
 }
 
-/// Writes a point: 11, 12, 14, 16 or 50, 17, then 40.
-pub fn write_point(tag: u8, value: &[u8], lent: &mut [u8]) -> Refusal {
-    answer(try_write_point(tag, value, lent))
+/// Writes a point: 11, 12, 14, 16 or 50, 51 or 52, then 40. The answer has the
+/// index of the reading that 51 or 52 concerns, otherwise 0.
+pub fn write_point(tag: u8, value: &[u8], lent: &mut [u8]) -> Told {
+    let outcome = try_write_point(tag, value, lent);
+    outcome.err().unwrap_or(Told::from(ACCEPTED))
 }
 
-fn try_write_point(tag: u8, value: &[u8], lent: &mut [u8]) -> Result<(), Refusal> {
+fn try_write_point(tag: u8, value: &[u8], lent: &mut [u8]) -> Result<(), Told> {
     let point = Point::cut(tag, value)?; // 11, 12
     point.check_number()?; // 14
     point.check_class_baseline_or_share()?; // 16 or 50
-    point.check_readings()?; // 17
-    put(&field(tag, value), lent)
+    point.check_readings()?; // 51 or 52
+    put(&field(tag, value), lent)?; // 40
+    Ok(())
 }

@@ -146,8 +146,8 @@ fn a_plant_in_the_order_of_document_01() {
     assert_eq!(changed(&[share, reading], 127), 31);
     assert_eq!(changed(&[number, share, reading], whole), 14);
     assert_eq!(changed(&[share, reading], whole), 50);
-    assert_eq!(changed(&[reading], whole), 17);
-    assert_eq!(changed(&[(80, 0xFF)], whole), 17); // the first reading
+    assert_eq!(changed(&[reading], whole), 51);
+    assert_eq!(changed(&[(80, 0xFF)], whole), 51); // the first reading
     assert_eq!(changed(&[(78, 3), (79, 0xE8)], whole), 0); // 1,000
     assert_eq!(changed(&[(78, 3), (79, 0xE9)], whole), 50); // 1,001
     let mut book = book_of_a_plant();
@@ -237,7 +237,7 @@ fn a_point_in_the_order_of_document_01() {
     assert_eq!(changed(&[number], 105), 31);
     assert_eq!(changed(&[number, baseline], WHOLE), 14);
     assert_eq!(changed(&[baseline, (82, 0xFF)], WHOLE), 16);
-    assert_eq!(changed(&[(82, 0xFF)], WHOLE), 17);
+    assert_eq!(changed(&[(82, 0xFF)], WHOLE), 51);
     assert_eq!(changed(&[(53, 5)], WHOLE), 12);
     for other in [0, 1, 2, 6, 7] {
         assert_eq!(changed(&[(53, other)], WHOLE), 11);
@@ -257,7 +257,7 @@ fn a_point_is_judged_before_what_follows() {
     list.points[2].readings()[5] = u32::MAX;
     let mut book = list.book();
     book.extend([0; 9]);
-    assert_eq!(answer(&book), 17); // before 42
+    assert_eq!(answer(&book), 51); // before 42
     list.marks = [3; 30];
     assert_eq!(answer(&list.book()), 18); // the earlier point's
 }
@@ -339,7 +339,7 @@ fn a_book_read_in_full_is_written_with_the_same_bytes() {
     assert_eq!(damages.len(), DAMAGES.len() + 1);
     let all: Vec<u32> = answers.keys().copied().collect();
     let due = [
-        0, 1, 2, 3, 4, 5, 6, 7, 8, 11, 12, 14, 15, 16, 17, 18, 20, 31, 41, 42, 50,
+        0, 1, 2, 3, 4, 5, 6, 7, 8, 11, 12, 14, 15, 16, 18, 20, 31, 41, 42, 50, 51, 52,
     ];
     assert_eq!(all, due);
     assert!(answers.values().all(|&times| times >= 10), "{answers:?}");

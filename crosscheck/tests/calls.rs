@@ -1,6 +1,9 @@
 //! The stored calls of the program call_vectors: what they cover, their form,
 //! and that the stored files are those made here.
 
+mod common;
+
+use common::with_index_due;
 use settlement::books::examples::consumer_of_example_h;
 use settlement::books::fields::{
     raw_field, ConsumerFields, GeneratorFields, Head, MixedFiringFields,
@@ -56,13 +59,13 @@ fn every_refusal_of_every_operation() {
         told.entry(name(call)).or_default().insert(call.answer().0);
     }
     assert!(told["opening"].iter().copied().eq(0..=8));
-    let of_adding = (0..=0).chain(9..=18).chain([50]);
+    let of_adding = (0..=0).chain(9..=16).chain([18, 50, 51, 52]);
     assert!(told["adding"].iter().copied().eq(of_adding));
     assert!(told["closing"].iter().copied().eq([0, 9, 20]));
     let of_head_writing = told["writing head"].iter().copied();
     assert!(of_head_writing.eq((0..=8).chain([40])));
     let of_point_writing = told["writing point"].iter().copied();
-    assert!(of_point_writing.eq([0, 11, 12, 14, 16, 17, 40, 50]));
+    assert!(of_point_writing.eq([0, 11, 12, 14, 16, 40, 50, 51, 52]));
 }
 
 #[test]
@@ -88,14 +91,14 @@ fn the_line_of_an_accepted_consumer() {
     let zeros = "0".repeat(60);
     let last = format!("{}31", "30".repeat(21));
     let line = format!(
-        "adding 0 year 2024 month 8 day 7 slot 26 losses 700 400 200 contract 1000 count 1 \
+        "adding 0 index 0 year 2024 month 8 day 7 slot 26 losses 700 400 200 contract 1000 count 1 \
          marks {zeros} points 1 totals 1000 1000 1000 1000 1000 1000 last {last} \
          days 1 2 5 6 places 1000 1000 1000 1000 1000 1000\n"
     );
     assert_eq!(call.answer(), (0, line));
 }
 
-/// A refused adding: the state as it was, four zeros, no place written.
+/// A refused adding: index 0, the state as it was, four zeros, no place written.
 #[test]
 fn the_line_of_a_refused_consumer() {
     let call = Call::Adding {
@@ -105,12 +108,60 @@ fn the_line_of_a_refused_consumer() {
         value: consumer_of_example_h(1, 240).value(),
     };
     let line = format!(
-        "adding 9 year 0 month 0 day 0 slot 0 losses 0 0 0 contract 0 count 0 marks {} \
+        "adding 9 index 0 year 0 month 0 day 0 slot 0 losses 0 0 0 contract 0 count 0 marks {} \
          points 0 totals 0 0 0 0 0 0 last {} days 0 0 0 0 places\n",
         "0".repeat(60),
         "0".repeat(44)
     );
     assert_eq!(call.answer(), (9, line));
+}
+
+/// A generator whose third reading is too large, added and written.
+#[test]
+fn the_lines_of_a_large_reading() {
+    let mut generator = GeneratorFields::flat(1, 0, 1_000_000_000);
+    generator.readings[2] += 1;
+    let call = Call::Adding {
+        state: State::ZEROS,
+        tag: 4,
+        places: vec![5; 6],
+        value: generator.value(),
+    };
+    assert!(call.answer().1.starts_with("adding 9 index 0 year 0 "));
+    let (_, state) = open(&Head::EXAMPLE_M.value(), &[0; 30]);
+    let call = Call::Adding {
+        state,
+        tag: 4,
+        places: vec![5; 6],
+        value: generator.value(),
+    };
+    let line = format!(
+        "adding 51 index 2 year 2024 month 8 day 7 slot 26 losses 700 400 200 contract 1000 \
+         count 1 marks {} points 0 totals 0 0 0 0 0 0 last {} days 0 0 0 0 places 5 5 5 5 5 5\n",
+        "0".repeat(60),
+        "30".repeat(22)
+    );
+    assert_eq!(call.answer(), (51, line));
+    let call = Call::WritingPoint {
+        tag: 4,
+        value: generator.value(),
+        lent: vec![0xAB, 0x0C],
+    };
+    let line = "writing point 51 index 2 lent ab0c\n";
+    assert_eq!(call.answer(), (51, line.to_string()));
+}
+
+/// The example of docs/VECTORS.md.
+#[test]
+fn the_line_of_a_point_of_no_bytes() {
+    let call = Call::WritingPoint {
+        tag: 4,
+        value: vec![],
+        lent: vec![0xAB, 0x0C],
+    };
+    assert_eq!(call.bytes(), [5, 4, 0, 0, 0, 2, 0xAB, 0x0C]);
+    let line = "writing point 12 index 0 lent ab0c\n";
+    assert_eq!(call.answer(), (12, line.to_string()));
 }
 
 /// Each clause of refusal 9 that a state meets, by its name.
@@ -251,7 +302,7 @@ fn consumers_of_every_choice() {
 }
 
 /// The faults of a plant's adding that tell 50 or stand behind it, by the
-/// bytes: 50, then 17.
+/// bytes: 50, then 51.
 fn faults_of_a_plant(value: &[u8]) -> [bool; 2] {
     let number = |bytes: &[u8]| {
         bytes
@@ -272,7 +323,7 @@ struct PlantsShown {
     told: BTreeSet<(u32, [bool; 2])>,
     accepted_shares: BTreeSet<u16>,
     refused_shares: BTreeSet<u16>,
-    /// Place and reading: allowed ones of accepted plants, others where 17 is told.
+    /// Place and reading: allowed ones of accepted plants, others where 51 is told.
     readings: BTreeSet<(usize, u32)>,
 }
 
@@ -288,7 +339,7 @@ impl PlantsShown {
         for (place, reading) in value[24..].chunks(4).enumerate() {
             let reading = u32::from_be_bytes(reading.try_into().unwrap());
             let large = reading > 1_000_000_000;
-            if (refusal == 0 && !large) || (refusal == 17 && large) {
+            if (refusal == 0 && !large) || (refusal == 51 && large) {
                 self.readings.insert((place, reading));
             }
         }
@@ -322,9 +373,10 @@ fn plants_of_every_share_and_reading() {
             let alone = earlier == 11 || earlier == 12; // no plant in other forms
             assert!(alone || told.contains(&(earlier, faults)), "{earlier}");
         }
-        assert!(told.contains(&(if faults[0] { 50 } else { 17 }, faults)));
+        assert!(told.contains(&(if faults[0] { 50 } else { 51 }, faults)));
     }
-    assert!(!told.iter().any(|(refusal, _)| [16, 18].contains(refusal)));
+    let of_others = [16, 18, 52];
+    assert!(!told.iter().any(|(refusal, _)| of_others.contains(refusal)));
     for share in [0, 1, 333, 500, 999, 1_000] {
         assert!(accepted_shares.contains(&share), "{share}");
     }
@@ -377,7 +429,13 @@ fn every_lent_byte_after_a_writing() {
             kept += u32::from(due[field.len()..].iter().any(|&byte| byte > 0));
         }
         let digits: String = due.iter().map(|byte| format!("{byte:02x}")).collect();
-        let line = format!("{} {refusal} lent {digits}", name(&call));
+        let index = match &call {
+            Call::WritingPoint { tag, value, .. } => {
+                format!(" index {}", with_index_due(refusal, *tag, value).1)
+            }
+            _ => String::new(),
+        };
+        let line = format!("{} {refusal}{index} lent {digits}", name(&call));
         assert_eq!(text, format!("{}\n", line.trim_end()));
     }
     assert!(kept > 300, "{kept}");
@@ -446,9 +504,10 @@ fn set_point_right(tag: &mut u8, value: &mut Vec<u8>, lent: &mut Vec<u8>, refusa
         (16, 3) => value[22] = 1,
         (16, _) => value[22..26].fill(0),
         (50, _) => value[22..24].fill(0),
-        (17, 3) => value[23..].fill(0),
-        (17, 4) => value[26..].fill(0),
-        (17, _) => value[24..].fill(0),
+        (51, 3) => value[23..215].fill(0),
+        (51, 4) => value[26..].fill(0),
+        (51, _) => value[24..].fill(0),
+        (52, _) => value[215..].fill(0),
         _ => lent.resize(3 + value.len(), 0),
     }
 }
@@ -492,14 +551,16 @@ fn refusals_of_writing_alone_and_before_others() {
     of_a_head.remove(&(2, 3)); // a date is never both
     of_a_head.extend([(1, 0), (1, 40)]); // no fields in other lengths
     assert_eq!(seen["head"], of_a_head);
-    let mut of_a_point = alone_and_before(&[14, 16, 17, 40]);
-    of_a_point.extend([(12, 0), (12, 40)]);
-    assert_eq!(seen["consumer"], of_a_point);
-    assert_eq!(seen["generator"], of_a_point);
-    let mut of_a_plant = alone_and_before(&[14, 50, 17, 40]);
-    of_a_plant.extend([(12, 0), (12, 40)]);
-    assert_eq!(seen["plant"], of_a_plant);
-    let of_another_tag = [0, 12, 14, 16, 17, 40, 50].map(|next| (11, next));
+    for (kind, refusals) in [
+        ("consumer", &[14, 16, 51, 52, 40][..]),
+        ("generator", &[14, 16, 51, 40]),
+        ("plant", &[14, 50, 51, 40]),
+    ] {
+        let mut of_a_point = alone_and_before(refusals);
+        of_a_point.extend([(12, 0), (12, 40)]);
+        assert_eq!(seen[kind], of_a_point);
+    }
+    let of_another_tag = [0, 12, 14, 16, 40, 50, 51, 52].map(|next| (11, next));
     assert_eq!(seen["other"], BTreeSet::from(of_another_tag));
 }
 

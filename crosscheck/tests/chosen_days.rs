@@ -278,7 +278,8 @@ fn every_day_told_by_the_stored_calls() {
 #[test]
 fn every_refusal_of_the_stored_calls_with_four_days() {
     let shown = shown_by_stored_calls();
-    shown.hold((9..=17).map(|refusal| format!("{refusal} with four days")));
+    let refusals = (9..=16).chain([51, 52]);
+    shown.hold(refusals.map(|refusal| format!("{refusal} with four days")));
     shown.hold([4, 5].map(|tag| format!("tag {tag} accepted on enough days")));
 }
 

@@ -502,6 +502,7 @@ impl Program for Answers {
     fn add(&self, state: &State, _: u8, _: &[u8], _: &mut [i64]) -> Added {
         Added {
             refusal: self.0,
+            index: 0,
             state: *state,
             days: [0; 4],
         }

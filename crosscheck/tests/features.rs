@@ -3,14 +3,17 @@
 
 use settlement::book::PointValue;
 use settlement::books::damages::{field_begins, FIRST_OF_POINT};
+use settlement::books::lending::{lent_bytes, to_write};
 use settlement::books::{seeded_book, SeededBook};
 use settlement::choosing::{dropped_in_round, standing_days, WindowSums};
 use settlement::days::is_weekend;
 use settlement::ledger::{add, close, open, State};
 use settlement::limits::*;
 use settlement::point::{MixedFiring, Point};
+use settlement::refusals::{Told, READING, READING_OF_A_DAY_BACK};
 use settlement::slots::{window_sums, SlotResults};
 use settlement::terms::{contract_is_allowed, Terms};
+use settlement::writing::write_point;
 use std::collections::{BTreeMap, BTreeSet};
 
 const BOOKS: u64 = 20_000;
@@ -190,17 +193,83 @@ fn look_at_point(seen: &mut Seen, state: &State, tag: u8, value: &[u8]) -> State
         faults.push((18, few_days)); // a plant has no days
     }
     seen.note_faults(&faults);
+    let told = Told {
+        refusal,
+        index: added.index,
+    };
+    look_at_large_readings(seen, "added", &point, told);
     after
 }
 
-/// The faults 14 to 17 of a point, with the number at the place of 16.
+/// The faults 14 to 17 of a point, with the number at the place of 16. Those at
+/// the place of 17 are each looked for by themselves.
 fn faults_of_value(state: &State, point: &Point, at_16: u32) -> Vec<(u32, bool)> {
-    vec![
+    let [first, days_back] = cases_of_readings(point);
+    let mut faults = vec![
         (14, point.check_number().is_err()),
         (15, state.points > 0 && point.number() <= state.last),
         (at_16, point.check_class_baseline_or_share().is_err()),
-        (17, point.check_readings().is_err()),
-    ]
+        (51, first),
+    ];
+    if at_16 == 16 {
+        faults.push((52, days_back)); // a plant has no days back
+    }
+    faults
+}
+
+/// Whether a large reading occurs where 51 is due, and where 52 is.
+fn cases_of_readings(point: &Point) -> [bool; 2] {
+    let large: Vec<bool> = point
+        .readings()
+        .map(|reading| reading > HIGHEST_READING)
+        .collect();
+    let (first, days_back) = large.split_at(large.len().min(SLOTS_OF_A_DAY));
+    [first, days_back].map(|part| part.contains(&true))
+}
+
+/// The reading that 51 or 52 concerns, and what stands behind it.
+fn look_at_large_readings(seen: &mut Seen, call: &str, point: &Point, told: Told) {
+    let (kind, matter) = match point {
+        Point::Consumer(_) => ("consumer", vec![0, 47, 48, 1_487]),
+        Point::Generator(_) => ("generator", (0..6).collect()),
+        Point::MixedFiring(_) => ("plant", (0..12).collect()),
+    };
+    let concerned = [READING, READING_OF_A_DAY_BACK].contains(&told.refusal);
+    let index = concerned.then_some(told.index as usize);
+    for place in matter {
+        let feature = format!("{kind} {call}, first large reading {place}");
+        seen.note(&feature, index == Some(place));
+    }
+    let readings: Vec<u32> = point.readings().collect();
+    let (first, behind) = match index {
+        Some(index) => (readings[index], &readings[index + 1..]),
+        None => (0, &[][..]),
+    };
+    let another = behind.iter().any(|&reading| reading > HIGHEST_READING);
+    let higher = behind.iter().any(|&reading| reading > first);
+    let both = concerned && cases_of_readings(point) == [true; 2];
+    seen.note(&format!("{kind} {call}, several large readings"), another);
+    seen.note(&format!("{kind} {call}, a higher one behind"), higher);
+    if kind == "consumer" {
+        seen.note(&format!("{kind} {call}, both cases"), both);
+        let second = told.refusal == READING_OF_A_DAY_BACK && another;
+        seen.note(&format!("{kind} {call}, several of the days back"), second);
+    }
+}
+
+/// What is written of a seeded book, damaged or not.
+#[test]
+fn large_readings_written() {
+    let mut seen = Seen::default();
+    for number in 0..BOOKS {
+        let book = seeded_book(number).book;
+        let given = to_write(&book, number);
+        let told = write_point(given.tag, given.value, &mut lent_bytes(given.room));
+        if let Ok(point) = Point::cut(given.tag, given.value) {
+            look_at_large_readings(&mut seen, "written", &point, told);
+        }
+    }
+    seen.all_occur(30);
 }
 
 /// The share and the twelve readings of a plant, and its divisions.
@@ -271,7 +340,7 @@ fn look_at_points(seen: &mut Seen, book: &[u8]) {
 
 #[test]
 fn points_walks_and_totals() {
-    look_at_books(look_at_points).all_occur(125);
+    look_at_books(look_at_points).all_occur(160);
 }
 
 #[test]

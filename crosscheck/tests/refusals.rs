@@ -6,6 +6,7 @@ mod common;
 use common::*;
 use settlement::books::fields::*;
 use settlement::ledger::{add, close, open, Added, Figures, State};
+use settlement::refusals::Told;
 use settlement::terms::Terms;
 use settlement::writing::{write_head, write_point};
 
@@ -227,15 +228,18 @@ fn adding_of(point: PointFields) -> Adding {
     }
 }
 
-/// The answer of adding; a refused one must leave places and state alone, and
-/// only an accepted consumer has days to tell.
+/// The answer of adding; a refused one must leave places and state alone, only
+/// an accepted consumer has days to tell, and only 51 and 52 have an index.
 fn answer_of_adding(adding: &Adding) -> u32 {
     let mut places = vec![UNWRITTEN; adding.places];
     let Added {
         refusal: number,
+        index,
         state,
         days,
     } = add(&adding.state, adding.tag, &adding.value, &mut places);
+    let due = with_index_due(number, adding.tag, &adding.value);
+    assert_eq!((number, index), due);
     if number == 0 {
         assert_eq!(state.points, adding.state.points + 1);
         assert_eq!(state.last[..], adding.value[..22]);
@@ -253,9 +257,9 @@ fn answer_of_adding(adding: &Adding) -> u32 {
 }
 
 /// Faults in the order of document 01, for all kinds alike but for 16 and 50,
-/// which are one place, and 18, which only a consumer has; 40 is told by writing
-/// alone.
-const ADDING_FAULTS: [Fault<Adding>; 12] = [
+/// which are one place, and 52 and 18, which only a consumer has; 40 is told by
+/// writing alone.
+const ADDING_FAULTS: [Fault<Adding>; 13] = [
     (9, |adding| adding.state.terms.head.first_slot = 35),
     (10, |adding| adding.state.points = 3),
     (11, |adding| adding.tag = 6),
@@ -267,7 +271,8 @@ const ADDING_FAULTS: [Fault<Adding>; 12] = [
     }),
     (16, |adding| adding.value[22] = 0xFF), // class, or baseline's high byte
     (50, |adding| adding.value[22] = 0xFF), // share's high byte
-    (17, |adding| adding.value[46..49].fill(0xFF)), // a reading's high byte
+    (51, |adding| adding.value[46..49].fill(0xFF)), // a reading's high byte
+    (52, |adding| adding.value[5_971] = 0xFF), // that of a consumer's last reading
     (18, |adding| adding.state.terms.marks = [1; 30]),
     (40, |adding| adding.lent = 52),
 ];
@@ -280,19 +285,19 @@ fn faults_of(numbers: &[u32]) -> Vec<Fault<Adding>> {
 
 #[test]
 fn adding_a_consumer_tells_the_first_refusal() {
-    let faults = faults_of(&[9, 10, 11, 12, 13, 14, 15, 16, 17, 18]);
+    let faults = faults_of(&[9, 10, 11, 12, 13, 14, 15, 16, 51, 52, 18]);
     assert_order(&adding_of(level_consumer(7)), &faults, answer_of_adding);
 }
 
 #[test]
 fn adding_a_generator_tells_the_first_refusal() {
-    let faults = faults_of(&[9, 10, 11, 12, 13, 14, 15, 16, 17]);
+    let faults = faults_of(&[9, 10, 11, 12, 13, 14, 15, 16, 51]);
     assert_order(&adding_of(generator(7, 0, 1)), &faults, answer_of_adding);
 }
 
 #[test]
 fn adding_a_plant_tells_the_first_refusal() {
-    let faults = faults_of(&[9, 10, 11, 12, 13, 14, 15, 50, 17]);
+    let faults = faults_of(&[9, 10, 11, 12, 13, 14, 15, 50, 51]);
     assert_order(&adding_of(plant(7, 500, 1, 1)), &faults, answer_of_adding);
 }
 
@@ -455,9 +460,9 @@ const SHARES: [(u16, u32); 10] = [
 fn adding_at_the_edges_of_the_share() {
     for (share, due) in SHARES {
         assert_eq!(answer_of_adding(&adding_of(plant(7, share, 1, 1))), due);
-        // 50 is told before 17, and 15 and 14 before 50.
+        // 50 is told before 51, and 15 and 14 before 50.
         let mut adding = adding_of(plant(7, share, 1_000_000_001, 1));
-        let in_order = if due == 0 { 17 } else { 50 };
+        let in_order = if due == 0 { 51 } else { 50 };
         assert_eq!(answer_of_adding(&adding), in_order);
         adding.value[..22].copy_from_slice(&point_number(5));
         assert_eq!(answer_of_adding(&adding), 15);
@@ -468,11 +473,12 @@ fn adding_at_the_edges_of_the_share() {
 
 #[test]
 fn adding_tests_every_reading() {
-    for (reading, due) in [(1_000_000_000, 0), (1_000_000_001, 17), (u32::MAX, 17)] {
+    for (reading, due) in [(1_000_000_000, 0), (1_000_000_001, 51), (u32::MAX, 51)] {
         for place in 0..1_488 {
             let mut consumer = ConsumerFields::flat(7, 1, 1_000_000_000);
             consumer.readings[place] = reading;
             let adding = adding_of(PointFields::Consumer(consumer));
+            let due = if place < 48 || due == 0 { due } else { 52 };
             assert_eq!(answer_of_adding(&adding), due, "place {place}");
         }
         for place in 0..6 {
@@ -551,10 +557,15 @@ fn writing_a_head_needs_53_bytes() {
     }
 }
 
-/// The answer of writing a point; every lent byte is looked at.
+/// The answer of writing a point; every lent byte is looked at, and the index.
 fn answer_of_point_writing(adding: &Adding) -> u32 {
     let mut lent = lent_bytes(adding.lent);
-    let number = write_point(adding.tag, &adding.value, &mut lent);
+    let Told {
+        refusal: number,
+        index,
+    } = write_point(adding.tag, &adding.value, &mut lent);
+    let due = with_index_due(number, adding.tag, &adding.value);
+    assert_eq!((number, index), due);
     let mut due = lent_bytes(adding.lent);
     if number == 0 {
         let field = raw_field(adding.tag, &adding.value);
@@ -566,13 +577,14 @@ fn answer_of_point_writing(adding: &Adding) -> u32 {
 
 #[test]
 fn writing_a_point_tells_the_first_refusal() {
-    for point in [level_consumer(7), generator(7, 0, 1)] {
-        let faults = faults_of(&[11, 12, 14, 16, 17, 40]);
+    for (point, numbers) in [
+        (level_consumer(7), &[11, 12, 14, 16, 51, 52, 40][..]),
+        (generator(7, 0, 1), &[11, 12, 14, 16, 51, 40]),
+        (plant(7, 500, 1, 1), &[11, 12, 14, 50, 51, 40]),
+    ] {
+        let faults = faults_of(numbers);
         assert_order(&adding_of(point), &faults, answer_of_point_writing);
     }
-    let faults = faults_of(&[11, 12, 14, 50, 17, 40]);
-    let adding = adding_of(plant(7, 500, 1, 1));
-    assert_order(&adding, &faults, answer_of_point_writing);
 }
 
 #[test]
@@ -597,7 +609,7 @@ fn writing_a_point_at_the_edges() {
     for (baseline, reading, due) in [
         (1_000_000, 1_000_000_000, 0),
         (1_000_001, 0, 16),
-        (0, 1_000_000_001, 17),
+        (0, 1_000_000_001, 51),
     ] {
         let point = generator(7, baseline, reading);
         assert_eq!(answer_of_point_writing(&adding_of(point)), due);
@@ -606,7 +618,7 @@ fn writing_a_point_at_the_edges() {
         let point = plant(7, share, 1_000_000_000, 1_000_000_000);
         assert_eq!(answer_of_point_writing(&adding_of(point)), due);
         let point = plant(7, share, 0, 1_000_000_001);
-        let in_order = if due == 0 { 17 } else { 50 };
+        let in_order = if due == 0 { 51 } else { 50 };
         assert_eq!(answer_of_point_writing(&adding_of(point)), in_order);
     }
     for number in [0, 9_999_999_999_999_999_999_998] {

@@ -190,7 +190,7 @@ fn plants_at_the_edges_are_refused_or_taken() {
     let counts = counted(lists::boundary_plant, |list| {
         settlement::book::settle_fields(&list.book()).err()
     });
-    for answer in [None, Some(17), Some(50)] {
+    for answer in [None, Some(50), Some(51)] {
         assert!(counts[&answer] > 100, "{counts:?}");
     }
     let counts = counted(lists::highest_plants, |list| {

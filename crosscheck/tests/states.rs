@@ -21,11 +21,13 @@ fn told_9(state: &State) -> bool {
     let value = generator(1 << 70, 0, 1).value();
     let Added {
         refusal: adding,
+        index,
         state: after,
         days,
     } = add(state, 4, &value, &mut places);
     let (closing, figures) = close(state);
     assert_eq!(adding == 9, closing == 9, "{state:?}");
+    assert_eq!(index, 0);
     if adding != 0 {
         assert_eq!((after, places), (*state, [UNWRITTEN; 6]));
         assert_eq!(days, [0; 4]);

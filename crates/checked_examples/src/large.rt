@@ -17,8 +17,8 @@ fn line(value: &[u8], due: &[u8]) {
     text::by_hand(due);
 }
 
-// With two readings above the limit, which may be one.
-fn two(first: usize, second: usize, due: &[u8])
+// With two readings above the limit, or one where both places are the same.
+fn with_large(first: usize, second: usize, due: &[u8])
     requires { ⌜ (first < readingCount) × (second < readingCount) ⌝ }
 {
     let mut value = [0u8; CONSUMER_LENGTH];
@@ -30,11 +30,11 @@ fn two(first: usize, second: usize, due: &[u8])
 
 pub fn examples() {
     text::put(b"adding with reading 47 above the limit:");
-    two(47, 47, b"51 with 47");
+    with_large(47, 47, b"51 with 47");
     text::put(b"adding with reading 48:");
-    two(48, 48, b"52 with 48");
+    with_large(48, 48, b"52 with 48");
     text::put(b"adding with reading 1487:");
-    two(1487, 1487, b"52 with 1487");
+    with_large(1487, 1487, b"52 with 1487");
     text::put(b"adding with readings 1487 and 47:");
-    two(1487, 47, b"51 with 47");
+    with_large(1487, 47, b"51 with 47");
 }

@@ -61,19 +61,19 @@ beforeValue h points last tag value places =
     ++ placesRow places
     ++ numberRows points last (numberOf value)
 
--- 10 to 16, with 50 in the place of 16, 51 and 52 in that of 17: what is told before the days are chosen
+-- 10 to 15, 16 or 50, 51 or 52: what is told before the days are chosen
 abbrev pub givenTests : Head → ℕ → List ℕ → ℕ → List ℕ → ℕ → List (Bool × ℕ)
 givenTests h points last tag value places = beforeValue h points last tag value places ++ valueRows tag value
 
--- 10 to 18, so with 50, 51 and 52: the refusals other than 9, for the head and calendar, the points taken and the last number, and what
--- is given
+-- 10 to 15, 16 or 50, 51 or 52, 18: the refusals other than 9, for the head and calendar, the points taken and the last number, and
+-- what is given
 abbrev pub pointTests : Head → List ℕ → ℕ → List ℕ → ℕ → List ℕ → ℕ → List (Bool × ℕ)
 pointTests h marks points last tag value places = givenTests h points last tag value places ++ daysRow h marks tag value
 
 unfoldable pub pointRefusal : Head → List ℕ → ℕ → List ℕ → ℕ → List ℕ → ℕ → ℕ
 pointRefusal h marks points last tag value places = firstOf (pointTests h marks points last tag value places)
 
--- 9 to 18, so with 50, 51 and 52, for a tag, a value and the number of places lent
+-- with 9 before them, for a tag, a value and the number of places lent
 abbrev pub addingTests : State → ℕ → List ℕ → ℕ → List (Bool × ℕ)
 addingTests state tag value places =
     unsoundRow state ++ pointTests (state .head) (state .marks) (state .points) (state .last) tag value places

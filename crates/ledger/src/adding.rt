@@ -40,7 +40,7 @@ fn state_refusal(state: State) -> u32
     refusals::ACCEPTED
 }
 
-// 9 to 15, 16 or 50, 51 and 52: all that is told before the days are chosen, with the index of a reading.
+// 9 to 15, 16 or 50, 51 or 52: all that is told before the days are chosen, with the index of a reading.
 pub fn early_refusal(state: State, tag: u8, value: &[u8], places: usize) -> Refusal
     ensures { λ r. ⌜ r ≡ withIndex (earlyRefusal state tag (now (value .entry)) places) tag (now (value .entry)) ⌝ }
 {

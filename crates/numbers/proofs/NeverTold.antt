@@ -23,12 +23,13 @@ never test (row ∷ rows) z t = go (row .0) (none-cons (λ row. test (row .1)) r
     go true p f = no-false _ (p .0)
     go false p f = f (p .1)
 
--- one that the rows in the middle alone may have is told by these
+-- one that the rows in the middle alone may have is told by these, behind rows that tell none
 pub told-within : (test : ℕ → Bool) (before rows after : List (Bool × ℕ)) → T (numbered before) → T (numbered rows) → test 0 ≡ false
-    → Without test before → Without test after → test (firstOf (before ++ (rows ++ after))) ≡ true → firstOf (before ++ (rows ++ after)) ≡ firstOf rows
+    → Without test before → Without test after → test (firstOf (before ++ (rows ++ after))) ≡ true
+    → (firstOf before ≡ 0) × (firstOf (before ++ (rows ++ after)) ≡ firstOf rows)
 told-within test before rows after k l z b a t = go (ℕ-discrete (firstOf before) 0) (ℕ-discrete (firstOf rows) 0)
   where
-    go : Dec (firstOf before ≡ 0) → Dec (firstOf rows ≡ 0) → firstOf (before ++ (rows ++ after)) ≡ firstOf rows
+    go : Dec (firstOf before ≡ 0) → Dec (firstOf rows ≡ 0) → (firstOf before ≡ 0) × (firstOf (before ++ (rows ++ after)) ≡ firstOf rows)
     go (no n) d = absurd (true≢false (sym t ∙ ap test (told before (rows ++ after) n) ∙ never test before z b))
-    go (yes e) (no n) = passed before (rows ++ after) k e ∙ told rows after n
+    go (yes e) (no n) = (e, passed before (rows ++ after) k e ∙ told rows after n)
     go (yes e) (yes f) = absurd (true≢false (sym t ∙ ap test (passed before (rows ++ after) k e ∙ passed rows after l f) ∙ never test after z a))

@@ -55,11 +55,11 @@ unfit-above mixedFiring = omega arith
 unfit-above unknown = omega arith
 
 -- numbers about a reading: those that are told, and the one that was
-abbrev pub isAboutReading : ℕ → Bool
-isAboutReading n = isOfReading n || eqb n 17
+abbrev pub isOfReadingOr17 : ℕ → Bool
+isOfReadingOr17 n = isOfReading n || eqb n 17
 
 -- an unfit value has none of them
-pub unfit-other : (kind : Kind) → isAboutReading (unfitNumber kind) ≡ false
+pub unfit-other : (kind : Kind) → isOfReadingOr17 (unfitNumber kind) ≡ false
 unfit-other consumer = refl
 unfit-other generator = refl
 unfit-other mixedFiring = refl

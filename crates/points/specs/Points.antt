@@ -165,12 +165,13 @@ shareRow share = (ltb mostShare share, unfitNumber mixedFiring) ∷ []
 abbrev pub unfitRow : ℕ → List ℕ → List (Bool × ℕ)
 unfitRow tag value = (isUnfit (kindOf tag) value, unfitNumber (kindOf tag)) ∷ []
 
--- CR 3: 'The test day of a consumer and all readings of other kinds are one case, the thirty days back the other.'
+-- a consumer's reading, by its index: of the test day, or of the days back
 abbrev pub isOfTestDay : ℕ → Bool
 isOfTestDay index = ltb index slotsOfDay
 
 -- 17: 'any reading above 1,000,000,000, used or not'; CR 3: '51, test day or generating point; 52, days back; both at the place of 17,
--- which is no longer given', by the index of the first such reading. That of a tag of no point is never told.
+-- which is no longer given', by the index of the first such reading. 'The test day of a consumer and all readings of other kinds are one
+-- case, the thirty days back the other.' That of a tag of no point is never told.
 abbrev pub largeNumber : Kind → ℕ → ℕ
 largeNumber consumer index = cond (isOfTestDay index) 51 52
 largeNumber generator index = 51

@@ -152,12 +152,12 @@ fn large_number(tag: u8, index: usize) -> u32
     ensures { λ r. ⌜ r ≡ largeNumber (kindOf tag) index ⌝ }
 {
     if tag != CONSUMER {
-        return refusals::READING;
+        return refusals::READING_OF_TEST_DAY;
     }
     if index < SLOTS_OF_DAY {
-        return refusals::READING;
+        return refusals::READING_OF_TEST_DAY;
     }
-    refusals::READING_BACK
+    refusals::READING_OF_DAYS_BACK
 }
 
 // A reading above the limit, used or not.

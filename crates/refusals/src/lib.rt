@@ -39,11 +39,11 @@ pub const CLASS_OR_BASELINE: u32 = 16;
 // CR 1: a share, at the place of 16.
 pub const SHARE: u32 = 50;
 
-// CR 3: a reading, at the place of 17, which is no longer given: of a consumer's test day or of another kind, and of a consumer's days
-// back.
-pub const READING: u32 = 51;
+// CR 3: a reading, at the place of 17, which is no longer given: of a consumer's test day or of a generating point, and of a consumer's
+// days back.
+pub const READING_OF_TEST_DAY: u32 = 51;
 
-pub const READING_BACK: u32 = 52;
+pub const READING_OF_DAYS_BACK: u32 = 52;
 
 pub const TOO_FEW_DAYS: u32 = 18;
 

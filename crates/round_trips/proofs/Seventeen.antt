@@ -16,14 +16,14 @@ use Rattle.ledger.specs.Operations.{openOf, addOf, closingTests, closingRefusal
 use Rattle.ledger.specs.declared.State.{State}
 use Rattle.ledger.specs.declared.Closed.{Closed}
 use Rattle.ledger.proofs.Sound.{open-refusal, close-refusal}
-use Rattle.calls.proofs.TooLarge.{adding-tells-reading}
+use Rattle.calls.proofs.TooLarge.{adding-not-seventeen}
 use Rattle.fields.specs.Fields.{tagAt, lengthDue, fieldTests, fieldRefusal, fieldOf}
 use Rattle.fields.specs.declared.Due.{Due}
 use Rattle.fields.specs.declared.Due.the-variants as due
 use Rattle.fields.specs.declared.Field.{Field}
 use Rattle.fields.specs.declared.Field.the-variants.{Value, Refused}
 use Rattle.writing.specs.Writing.{headWritingTests, headWritingRefusal}
-use Rattle.writing.proofs.TooLarge.{writing-tells-reading}
+use Rattle.writing.proofs.TooLarge.{writing-not-seventeen}
 use Rattle.book.specs.Reading.{Reading, refused, good, _>>=_, unless, Part, handedOn, field, openTest, addPoint, Points, Book, readPoints, readBook}
 use Rattle.book.specs.Endings.{bookEnding, closedAfter}
 use Rattle.book.specs.Settling.{resultLength, closingOf, settlingRefusal}
@@ -36,9 +36,6 @@ not-told rows t e = true≢false (sym (eq-eqb _ _ e) ∙ never (λ n. eqb n 17) 
 open-not : (head calendar : List ℕ) → openOf head calendar .refusal ≡ 17 → ⊥
 unfolding openingRefusal any
 open-not head calendar e = not-told (openingTests head calendar) tt (sym (open-refusal head calendar) ∙ e)
-
-add-not : (state : State) (tag : ℕ) (value : List ℕ) (places : ℕ) → addOf state tag value places .refusal ≡ 17 → ⊥
-add-not state tag value places = adding-tells-reading state tag value places .gone
 
 close-not : (state : State) → closeOf state .refusal ≡ 17 → ⊥
 unfolding closingRefusal any
@@ -84,7 +81,7 @@ points-not zero state left = go (eqb (length left) 0) _
     go false points = λ e. omega arith
 points-not (suc n) state left =
     then-not (field due.Point left) _ (field-not due.Point left) λ (part : Part).
-    then-not (addPoint state (part .point)) _ (unless-not _ _ (add-not state (part .point .tag) (part .point .value) windowSlots)) λ (next : State).
+    then-not (addPoint state (part .point)) _ (unless-not _ _ (adding-not-seventeen state (part .point .tag) (part .point .value) windowSlots)) λ (next : State).
     then-not (readPoints n next (part .left)) _ (points-not n next (part .left)) λ (rest : Points). tt
 
 book-not : (book : List ℕ) → Not (readBook book)
@@ -122,9 +119,9 @@ head-not head calendar room = not-told (headWritingTests head calendar room) tt
 pub no-seventeen : NoSeventeen
 no-seventeen = record {
   opening = open-not;
-  adding = add-not;
+  adding = adding-not-seventeen;
   closing = close-not;
   writingHead = head-not;
-  writingPoint = λ tag value room. writing-tells-reading tag value room .gone;
+  writingPoint = writing-not-seventeen;
   wholeBook = settling-not;
 }

@@ -17,7 +17,7 @@ use Rattle.ledger.specs.Operations.{closeOf}
 use Rattle.book.specs.Reading.{good, Contents, Book, readBook}
 use Rattle.fields.specs.Fields.{headerLength, written}
 pub use Rattle.writing.specs.Writing.{headRoom}
-use Rattle.writing.specs.Writing.{writtenHead, headWritingRefusal, pointWritingRefusal}
+use Rattle.writing.specs.Writing.{writtenHead, headWritingRefusal, pointWritingAnswer}
 use Rattle.book.specs.Settling.{resultLength, settlingRefusal}
 use Rattle.calls.specs.Calls.{Call, adding, closing, accepted, closed, program}
 
@@ -47,7 +47,7 @@ pub record Writable (b : Contents) : Type 0 where
   pub head : headWritingRefusal (b .head) (b .calendar) headRoom ≡ 0
   pub count : length (b .points) ≡ headOf (b .head) .count
   pub rising : T (rises (b .points))
-  pub taken : Each (λ p. pointWritingRefusal (p .tag) (p .value) (roomFor p) ≡ 0) (b .points)
+  pub taken : Each (λ p. pointWritingAnswer (p .tag) (p .value) (roomFor p) .number ≡ 0) (b .points)
   pub showsDays : Each (λ p. T (not (lacksDays (headOf (b .head)) (b .calendar) (kindOf (p .tag)) (p .value)))) (b .points)
 
 -- the calls that a book stands for

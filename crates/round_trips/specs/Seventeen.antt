@@ -4,7 +4,7 @@ use mathlib.Core.List.{List}
 use Prim.Native.Nat.{ℕ}
 use Rattle.ledger.specs.Operations.{openOf, addOf, closeOf}
 use Rattle.ledger.specs.declared.State.{State}
-use Rattle.writing.specs.Writing.{headWritingRefusal, pointWritingRefusal}
+use Rattle.writing.specs.Writing.{headWritingRefusal, pointWritingAnswer}
 use Rattle.book.specs.Settling.{settlingRefusal}
 
 pub record NoSeventeen : Type 0 where
@@ -12,5 +12,5 @@ pub record NoSeventeen : Type 0 where
   pub adding : (state : State) (tag : ℕ) (value : List ℕ) (places : ℕ) → addOf state tag value places .refusal ≡ 17 → ⊥
   pub closing : (state : State) → closeOf state .refusal ≡ 17 → ⊥
   pub writingHead : (head calendar : List ℕ) (room : ℕ) → headWritingRefusal head calendar room ≡ 17 → ⊥
-  pub writingPoint : (tag : ℕ) (value : List ℕ) (room : ℕ) → pointWritingRefusal tag value room ≡ 17 → ⊥
+  pub writingPoint : (tag : ℕ) (value : List ℕ) (room : ℕ) → pointWritingAnswer tag value room .number ≡ 17 → ⊥
   pub wholeBook : (book : List ℕ) (room : ℕ) → settlingRefusal book room ≡ 17 → ⊥

@@ -5,7 +5,7 @@ use Prim.Native.Nat.{ℕ, _≤_}
 use lib.ListN.{length, take, drop}
 use Rattle.numbers.specs.Placing.{atFront}
 use Rattle.points.specs.Points.{Point}
-use Rattle.writing.specs.Writing.{headWritingRefusal, headWritingOut, pointWritingRefusal, pointWritingOut}
+use Rattle.writing.specs.Writing.{headWritingRefusal, headWritingOut, pointWritingAnswer, pointWritingOut}
 use Rattle.book.specs.Reading.{Contents}
 use Rattle.round_trips.specs.Demand2.{headRoom, roomFor, Each, writtenBook}
 
@@ -16,11 +16,11 @@ pointsOut (p ∷ points) out =
     let after = pointWritingOut (p .tag) (p .value) out in
     take (roomFor p) after ++ pointsOut points (drop (roomFor p) after)
 
--- the answers of these calls
+-- the refusal numbers that these calls answer
 unfoldable pub pointsAnswers : List Point → List ℕ → List ℕ
 pointsAnswers [] out = []
 pointsAnswers (p ∷ points) out =
-    pointWritingRefusal (p .tag) (p .value) (length out)
+    pointWritingAnswer (p .tag) (p .value) (length out) .number
     ∷ pointsAnswers points (drop (roomFor p) (pointWritingOut (p .tag) (p .value) out))
 
 -- with `write_head` before them
@@ -43,6 +43,6 @@ pub record WroteBook (b : Contents) (out : List ℕ) : Type 0 where
 abbrev pub WritingCalls : Type 0
 WritingCalls = (b : Contents)
     → headWritingRefusal (b .head) (b .calendar) headRoom ≡ 0
-    → Each (λ p. pointWritingRefusal (p .tag) (p .value) (roomFor p) ≡ 0) (b .points)
+    → Each (λ p. pointWritingAnswer (p .tag) (p .value) (roomFor p) .number ≡ 0) (b .points)
     → (out : List ℕ)
     → length (writtenBook b) ≤ length out → WroteBook b out

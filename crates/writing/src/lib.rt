@@ -50,7 +50,7 @@ pub fn write_head(head: &[u8], calendar: &[u8], out: &mut [u8]) -> u32
     refusals::ACCEPTED
 }
 
-// What is refused in a point before room is looked for, 11, 12, 14, 16 or 50, 51 and 52, with the index of a reading.
+// What is refused in a point before room is looked for, 11, 12, 14, 16 or 50, 51 or 52, with the index of a reading.
 fn point_refusal(tag: u8, value: &[u8]) -> Refusal
     ensures { λ r. ⌜ r ≡ withIndex (valueWritingRefusal tag (now (value .entry))) tag (now (value .entry)) ⌝ }
 {

@@ -32,7 +32,7 @@ extern "C" {
         value_length: usize,
         out: *mut u8,
         out_length: usize,
-    ) -> u32;
+    ) -> u64;
 }
 
 /// Bytes on both sides of lent memory, which must keep their values.
@@ -132,15 +132,22 @@ fn compare_writing(book: &[u8], number: u64) -> Result<(), String> {
     }
     let mut expected = Lent::new(room);
     let mut found = Lent::new(room);
-    let refusal = writing::write_point(tag, value, expected.lent());
+    let told = writing::write_point(tag, value, expected.lent());
     let answer =
         unsafe { tembuyas_write_point(tag, value.as_ptr(), value.len(), found.pointer(), room) };
-    if (answer, &found.bytes) != (refusal, &expected.bytes) {
+    let answer = refusal_and_index(answer);
+    if (answer, &found.bytes) != ((told.refusal, told.index), &expected.bytes) {
         return Err(format!(
-            "writing a point answered {answer}, not {refusal}, or left other bytes"
+            "writing a point answered {answer:?}, not {told:?}, or left other bytes"
         ));
     }
     Ok(())
+}
+
+/// The answer of writing a point: its low 32 bits are the refusal, its high 32
+/// bits the index.
+fn refusal_and_index(answer: u64) -> (u32, u32) {
+    (answer as u32, (answer >> 32) as u32)
 }
 
 fn main() {

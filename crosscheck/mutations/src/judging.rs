@@ -27,8 +27,8 @@ pub trait Answers {
     fn settle(&self, book: &[u8], result: &mut [u8]) -> u32;
     /// Writing a head with its calendar.
     fn write_head(&self, head: &[u8], calendar: &[u8], lent: &mut [u8]) -> u32;
-    /// Writing a point.
-    fn write_point(&self, tag: u8, value: &[u8], lent: &mut [u8]) -> u32;
+    /// Writing a point: the number and the index.
+    fn write_point(&self, tag: u8, value: &[u8], lent: &mut [u8]) -> (u32, u32);
     /// What settle_book prints for a book.
     fn text(&self, book: &[u8]) -> String;
     /// The answers to single calls, given in the form of docs/VECTORS.md.
@@ -54,8 +54,9 @@ macro_rules! answers_of {
                 $settlement::writing::write_head(head, calendar, lent)
             }
 
-            fn write_point(&self, tag: u8, value: &[u8], lent: &mut [u8]) -> u32 {
-                $settlement::writing::write_point(tag, value, lent)
+            fn write_point(&self, tag: u8, value: &[u8], lent: &mut [u8]) -> (u32, u32) {
+                let told = $settlement::writing::write_point(tag, value, lent);
+                (told.refusal, told.index)
             }
 
             fn text(&self, book: &[u8]) -> String {
@@ -158,15 +159,15 @@ const RESULT_NAMES: [&str; 8] = [
     "bid",
 ];
 
-/// What one call gave: the name of the call, its number, the lent bytes.
+/// What one call gave: its name and number in words, the lent bytes.
 #[derive(PartialEq, Eq)]
-struct Given(&'static str, u32, Vec<u8>);
+struct Given(String, Vec<u8>);
 
 impl Given {
     /// Names and values, in words.
     fn words(&self) -> String {
-        let Given(name, refusal, lent) = self;
-        let mut words = format!("{name} {refusal}");
+        let Given(numbers, lent) = self;
+        let mut words = numbers.clone();
         if lent.len() == RESULT_LENGTH {
             for (name, word) in RESULT_NAMES.iter().zip(lent.as_chunks().0) {
                 words += &format!(" {name} {}", i64::from_be_bytes(*word));
@@ -187,21 +188,21 @@ impl Given {
 fn settling(by: &dyn Answers, book: &[u8], number: u64) -> Given {
     let mut result = lent_bytes(result_length(number));
     let refusal = by.settle(book, &mut result);
-    Given("settling", refusal, result)
+    Given(format!("settling {refusal}"), result)
 }
 
 fn writing_head(by: &dyn Answers, book: &[u8], number: u64) -> Given {
     let given = to_write(book, number);
     let mut lent = lent_bytes(given.room);
     let refusal = by.write_head(given.head, given.calendar, &mut lent);
-    Given("writing-head", refusal, lent)
+    Given(format!("writing-head {refusal}"), lent)
 }
 
 fn writing_point(by: &dyn Answers, book: &[u8], number: u64) -> Given {
     let given = to_write(book, number);
     let mut lent = lent_bytes(given.room);
-    let refusal = by.write_point(given.tag, given.value, &mut lent);
-    Given("writing-point", refusal, lent)
+    let (refusal, index) = by.write_point(given.tag, given.value, &mut lent);
+    Given(format!("writing-point {refusal} index {index}"), lent)
 }
 
 /// The first line that differs.

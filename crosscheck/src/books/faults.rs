@@ -13,8 +13,17 @@ type Fault = fn(&mut Random, &mut List);
 /// For 2 or 3, then for 4 to 8.
 const HEAD_FAULTS: [Fault; 6] = [date, first_slot, loss, contract, count, mark];
 
-/// For 15, 14, 16 or 50, 17 and 18; the number is set before a digit of it.
-const POINT_FAULTS: [Fault; 5] = [number_order, digit, class_baseline_or_share, reading, days];
+/// For 15, 14, 16 or 50, 51 or 52, and 18; the number is set before a digit of it.
+const POINT_FAULTS: [Fault; 5] = [
+    number_order,
+    digit,
+    class_baseline_or_share,
+    large_readings,
+    days,
+];
+
+/// For 16 or 50, and 18: on both sides of 51 and 52.
+const BESIDE_LARGE_READINGS: [Fault; 2] = [class_baseline_or_share, days];
 
 /// Breaks some of the rules.
 fn break_some(random: &mut Random, list: &mut List, faults: &[Fault]) {
@@ -32,24 +41,33 @@ pub fn head_faults(random: &mut Random) -> List {
     list
 }
 
-/// A generator, then a point with some of the faults 14 to 18, or 50 for 16.
+/// A generator, then a point with some of the faults 14 to 18, where 50 stands
+/// for 16 and 51 or 52 for 17; or a point alone that has large readings.
 pub fn point_faults(random: &mut Random) -> List {
     let mut list = ordinary(random);
     list.points.clear();
-    let first = generator(random, &list, 50_000);
-    list.push(PointFields::Generator(first));
+    let alone = random.once_in(3);
+    if !alone {
+        let first = generator(random, &list, 50_000);
+        list.push(PointFields::Generator(first));
+    }
     let point = match random.below(4) {
         0 => PointFields::Generator(generator(random, &list, 50_000)),
         1 => PointFields::MixedFiring(plant(random, &list, 50_000)),
         _ => PointFields::Consumer(consumer(random, &list, 50_000)),
     };
     list.push(point);
-    break_some(random, &mut list, &POINT_FAULTS);
+    if alone {
+        large_readings(random, &mut list);
+        break_some(random, &mut list, &BESIDE_LARGE_READINGS);
+    } else {
+        break_some(random, &mut list, &POINT_FAULTS);
+    }
     list
 }
 
 /// A mixed-firing plant, alone or behind a generator, with some of the faults 14,
-/// 15, 50 and 17; days it does not need.
+/// 15, 50 and 51; days it does not need.
 pub fn plant_faults(random: &mut Random) -> List {
     let mut list = begun(random);
     if random.once_in(2) {
@@ -132,12 +150,27 @@ fn class_baseline_or_share(random: &mut Random, list: &mut List) {
     }
 }
 
-fn reading(random: &mut Random, list: &mut List) {
-    let too_high = random.one_of(&[HIGHEST_READING + 1, u32::MAX]);
-    if let Some(last) = list.points.last_mut() {
-        let place = random.place(last.readings().len());
-        last.readings()[place] = too_high;
+/// One to three large readings of the last point.
+fn large_readings(random: &mut Random, list: &mut List) {
+    let Some(last) = list.points.last_mut() else {
+        return;
+    };
+    for _ in 0..random.between(1, 3) {
+        let place = place_of_reading(random, last.readings().len());
+        last.readings()[place] = random.one_of(&[HIGHEST_READING + 1, u32::MAX]);
     }
+}
+
+/// Any of so many readings; of a consumer mostly the first or the last of its
+/// test day or of its days back.
+fn place_of_reading(random: &mut Random, readings: usize) -> usize {
+    let any = random.place(readings);
+    if readings < CONSUMER_READINGS {
+        return any;
+    }
+    let ends = [0, SLOTS_OF_A_DAY - 1, SLOTS_OF_A_DAY, readings - 1];
+    let end = random.one_of(&ends);
+    random.one_of(&[any, end, end, end])
 }
 
 /// Marks that leave at most three eligible days.

@@ -3,6 +3,7 @@
 
 mod days;
 mod plants;
+mod readings;
 mod writing;
 
 use super::{Call, MOST_BYTES, MOST_PLACES};
@@ -35,6 +36,7 @@ pub fn stored_calls() -> Vec<Call> {
         plants::plant_calls(),
         writing::writing_calls(),
         days::day_calls(),
+        readings::reading_calls(),
     ];
     parts.concat()
 }
@@ -190,8 +192,8 @@ fn opening_dates() -> Vec<Call> {
     dates.iter().map(opening_on).collect()
 }
 
-/// Whether a set of faults holds one; the bit of a fault is its refusal, and 50
-/// has that of 16, at whose place it stands.
+/// Whether a set of faults holds one; the bit of a fault is its refusal. 50 has
+/// that of 16, and 51 and 52 have that of 17, at whose places they stand.
 fn holds(faults: u32, refusal: u32) -> bool {
     faults >> refusal & 1 == 1
 }
@@ -383,7 +385,7 @@ fn seeded_states() -> Vec<Call> {
     calls
 }
 
-/// Adding a generator with the faults of a set, 9 to 17.
+/// Adding a generator with the faults of a set, 9 to 17, where 17 stands for 51.
 fn faulty_generator(faults: u32) -> Call {
     let mut state = begun_state();
     state.terms.marks[0] = if holds(faults, 9) { 4 } else { 3 };
@@ -530,7 +532,7 @@ fn consumer_edges() -> Vec<Call> {
     points.map(|point| adding_point(&state, &point)).collect()
 }
 
-/// Adding a consumer with the faults of a set, 13 to 18.
+/// Adding a consumer with the faults of a set, 13 to 18, where 17 stands for 52.
 fn faulty_consumer(faults: u32) -> Call {
     let mut state = begun_state();
     let mark = if holds(faults, 18) { 1 } else { 0 };

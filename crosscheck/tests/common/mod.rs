@@ -27,6 +27,41 @@ pub fn days_told(state: &State, point: &PointFields) -> [u8; 4] {
     add(state, point.tag(), &point.value(), &mut [UNWRITTEN; 6]).days
 }
 
+/// The number and the index due for the first large reading of a value, another
+/// way: a consumer's test day and its days back are two parts, and the first part
+/// that has a large reading counts.
+pub fn naive_large_reading(tag: u8, value: &[u8]) -> Option<(u32, u32)> {
+    let (first, days_back) = match tag {
+        3 => value[23..].split_at(4 * 48),
+        4 => value[26..].split_at(4 * 6),
+        _ => value[24..].split_at(4 * 12),
+    };
+    let of_first = lowest_large(first).map(|place| (51, place));
+    of_first.or_else(|| lowest_large(days_back).map(|place| (52, 48 + place)))
+}
+
+/// The place of the first large one among readings of four bytes, found from the
+/// end on. Bytes are compared with those of 1,000,000,000, the high byte first.
+fn lowest_large(mut bytes: &[u8]) -> Option<u32> {
+    let mut lowest = None;
+    while let Some((before, reading)) = bytes.split_last_chunk::<4>() {
+        if *reading > [0x3B, 0x9A, 0xCA, 0x00] {
+            lowest = Some(before.len() as u32 / 4);
+        }
+        bytes = before;
+    }
+    lowest
+}
+
+/// A number with the index due beside it: that of the first large reading for 51
+/// and 52, and 0 for all others.
+pub fn with_index_due(number: u32, tag: u8, value: &[u8]) -> (u32, u32) {
+    match number {
+        51 | 52 => naive_large_reading(tag, value).expect("a large reading"),
+        _ => (number, 0),
+    }
+}
+
 /// A fraction in lowest terms with a positive denominator.
 #[derive(Clone, Copy, Debug, PartialEq, Eq)]
 pub struct Fraction {

@@ -173,7 +173,8 @@ fn marks_among_the_days() -> Vec<Call> {
     calls
 }
 
-/// A consumer that has four days, with one fault of 10 to 17, in two forms.
+/// A consumer that has four days, with one fault of 10 to 17, in two forms; those
+/// of 17 are 51 and 52.
 fn refused_consumer(refusal: u32, form: usize) -> Call {
     let mut state = state_on(form);
     let mut consumer = consumer_of(&state, &SUMS);
@@ -198,7 +199,7 @@ fn refused_consumer(refusal: u32, form: usize) -> Call {
     }
 }
 
-/// Each refusal from 10 to 17 of a consumer that has four days.
+/// Each refusal from 10 to 16, 51 and 52 of a consumer that has four days.
 fn refused_with_four_days() -> Vec<Call> {
     let forms = |refusal| [0, 1].map(|form| refused_consumer(refusal, form));
     (10..=17).flat_map(forms).collect()

@@ -15,7 +15,7 @@ pub fn plant_calls() -> Vec<Call> {
 }
 
 /// Adding a mixed-firing plant with the faults of a set, 9 to 17, where 16
-/// stands for 50.
+/// stands for 50 and 17 for 51.
 pub fn faulty_plant(faults: u32) -> Call {
     let mut state = begun_state();
     state.terms.head.contract = if holds(faults, 9) { 999 } else { 0 };

@@ -6,13 +6,13 @@ use super::*;
 
 /// Lengths of lent bytes, counted from the one that is due, in turns; the
 /// lowest number stands for no byte.
-const ROOMS: [isize; 7] = [0, 1, -1, 0, 9, isize::MIN, 60];
+pub const ROOMS: [isize; 7] = [0, 1, -1, 0, 9, isize::MIN, 60];
 
 /// One byte too few.
-const ONE_SHORT: [isize; 1] = [-1];
+pub const ONE_SHORT: [isize; 1] = [-1];
 
 /// As many as are due.
-const EXACT: [isize; 1] = [0];
+pub const EXACT: [isize; 1] = [0];
 
 /// All stored calls of writing, in their order.
 pub fn writing_calls() -> Vec<Call> {
@@ -54,7 +54,7 @@ fn lent_bytes(length: usize, order: usize) -> Vec<u8> {
 
 /// The same values written: openings give heads and addings points, and a
 /// closing gives nothing. Each has the next of the rooms.
-fn writing(calls: Vec<Call>, rooms: &[isize]) -> Vec<Call> {
+pub fn writing(calls: Vec<Call>, rooms: &[isize]) -> Vec<Call> {
     let as_writing = |(order, (call, &room)): (usize, (Call, &isize))| {
         let lent = |due: usize| {
             let length = due.saturating_add_signed(room);
