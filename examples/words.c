@@ -28,7 +28,7 @@ const char *refusal_in_words(uint32_t refusal)
     case TEMBUYAS_WRONG_TAG: return "the head or the calendar is not where it belongs";
     case TEMBUYAS_BYTES_AFTER: return "bytes follow the last point";
     case TEMBUYAS_SHARE: return "a biomass share is above 100.0 percent";
-    case TEMBUYAS_READING_TEST_DAY: return "a reading of the test day or of a generating point is above 1,000,000,000 Wh";
+    case TEMBUYAS_READING_TEST_DAY: return "a reading of the test day or a generating point is above 1,000,000,000 Wh";
     case TEMBUYAS_READING_DAYS_BACK: return "a reading of a consumer's days back is above 1,000,000,000 Wh";
     default: return "a refusal that this screen does not know";
     }
@@ -48,7 +48,8 @@ const char *reading_in_words(char text[READING_WORDS], uint8_t tag, uint64_t ans
     else if (tag == TEMBUYAS_TAG_CONSUMER)
         snprintf(text, READING_WORDS, "reading %u, test day from %u:%02u", index, half_hour / 2, half_hour % 2 * 30);
     else /* slots are counted from 1 here, as settle_book prints them */
-        snprintf(text, READING_WORDS, "reading %u, slot %u of the window%s", index, TEMBUYAS_INDEX_WINDOW_SLOT(index) + 1,
+        snprintf(text, READING_WORDS, "reading %u, slot %u of the window%s", index,
+                 TEMBUYAS_INDEX_WINDOW_SLOT(index) + 1,
                  tag == TEMBUYAS_TAG_GENERATOR ? "" : index < 6 ? ", outside the tariff" : ", inside the tariff");
     return text;
 }
