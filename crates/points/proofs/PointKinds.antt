@@ -1,5 +1,6 @@
 -- Kinds of point by their tags, and what a point of the right form or with allowed values shows. Assumes nothing.
 use mathlib.Core.Path.{_≡_, refl, ap}
+use mathlib.Core.Logic.{_⊎_, inl, inr, ⊎-elim}
 use mathlib.Core.Bool.{Bool, true, false, cond, _||_}
 use mathlib.Core.List.{List}
 use Prim.Native.Nat.{ℕ, _+_, _*_, _≤_, _<_}
@@ -66,15 +67,25 @@ unfit-other mixedFiring = refl
 unfit-other unknown = refl
 
 -- that of a large reading is 51 or 52
-pub large-number : (kind : Kind) (index : ℕ) → (50 < largeNumber kind index) × (isOfReading (largeNumber kind index) ≡ true)
+abbrev pub Large : ℕ → Type 0
+Large number = (number ≡ 51) ⊎ (number ≡ 52)
+
+pub large-number : (kind : Kind) (index : ℕ) → Large (largeNumber kind index)
 large-number consumer index = go (isOfTestDay index)
   where
-    go : (test-day : Bool) → (50 < cond test-day 51 52) × (isOfReading (cond test-day 51 52) ≡ true)
-    go true = (omega arith, refl)
-    go false = (omega arith, refl)
-large-number generator index = (omega arith, refl)
-large-number mixedFiring index = (omega arith, refl)
-large-number unknown index = (omega arith, refl)
+    go : (t : Bool) → Large (cond t 51 52)
+    go true = inl refl
+    go false = inr refl
+large-number generator index = inl refl
+large-number mixedFiring index = inl refl
+large-number unknown index = inl refl
+
+-- so it is above those of the other rows, and told with an index
+pub large-above : {number : ℕ} → Large number → 50 < number
+large-above = ⊎-elim (λ e. omega arith) (λ e. omega arith)
+
+pub large-of-reading : {number : ℕ} → Large number → isOfReading number ≡ true
+large-of-reading = ⊎-elim (ap isOfReading) (ap isOfReading)
 
 -- 51 where it is no consumer's
 pub large-other : (tag index : ℕ) → (tag ≡ consumerTag → ⊥) → largeNumber (kindOf tag) index ≡ 51
@@ -98,15 +109,15 @@ module _ (tag size : ℕ) (form : firstOf (formRows tag size) ≡ 0) where
 -- ---- a point with allowed values
 
 module _ (tag : ℕ) (value : List ℕ) where
-  abbrev unfit : ℕ
+  abbrev pub unfit : ℕ
   unfit = unfitNumber (kindOf tag)
 
-  abbrev large : ℕ
+  abbrev pub large : ℕ
   large = largeNumber (kindOf tag) (largeAt (kindOf tag) value)
 
   -- the numbers of the rows of a value are above those of the rows before it
   rows-above : (15 < unfit) × (15 < large)
-  rows-above = (unfit-above (kindOf tag), omega (arith, large-number (kindOf tag) (largeAt (kindOf tag) value) .0))
+  rows-above = (unfit-above (kindOf tag), omega (arith, large-above (large-number (kindOf tag) (largeAt (kindOf tag) value))))
 
   -- none of them is 0
   pub unfit-numbered : T (numbered (unfitRow tag value))

@@ -1,6 +1,6 @@
 -- What a table of refusals that holds the rows of a value tells of its readings. Assumes nothing.
 use mathlib.Core.Path.{_≡_, refl, ap, sym, _∙_}
-use mathlib.Core.Logic.{_⊎_, inl, inr, ⊎-elim}
+use mathlib.Core.Logic.{⊎-elim}
 use mathlib.Core.Bool.{Bool, true, false, cond, true≢false}
 use mathlib.Core.List.{List, _++_}
 use Prim.Native.Nat.{ℕ, _+_, _*_, _<_, _≤_}
@@ -17,10 +17,10 @@ use Rattle.numbers.proofs.Refusals.{numbered, passed, both-accepted}
 use Rattle.numbers.proofs.NeverTold.{Without, told-within}
 use Rattle.readings.specs.Readings.{readingLength, mostReading, firstLarge}
 use Rattle.readings.proofs.Large.{first-bound, none-large, first-is-large, first-is-first}
-use Rattle.points.specs.Points.{Kind, consumer, generator, mixedFiring, unknown, consumerTag, kindOf, readingsAt, readingsOf, readingsIn, isUnfit, largeAt, hasLarge}
-use Rattle.points.specs.Points.{unfitNumber, isOfTestDay, largeNumber, unfitRow, valueRows, isOfReading, indexTold}
+use Rattle.points.specs.Points.{Kind, consumer, consumerTag, kindOf, readingsAt, readingsOf, readingsIn, isUnfit, largeAt, hasLarge}
+use Rattle.points.specs.Points.{isOfTestDay, largeNumber, unfitRow, valueRows, isOfReading, indexTold}
 use Rattle.points.specs.TooLarge.{readingAt, IsFirstLarge, TellsReading}
-use Rattle.points.proofs.PointKinds.{of-tag, isOfReadingOr17, unfit-above, unfit-other, large-number, large-other, values-numbered, all-small}
+use Rattle.points.proofs.PointKinds.{of-tag, isOfReadingOr17, unfit-above, unfit-other, unfit, large, large-number, large-above, large-other, values-numbered, all-small}
 
 -- ---- the readings of a value
 
@@ -64,35 +64,16 @@ of-consumer index number e = go (isOfTestDay index) refl e
     go true p e = (λ z. ltb-true index slotsOfDay p, λ z. absurd (omega arith))
     go false p e = (λ z. absurd (omega arith), λ z. ltb-false index slotsOfDay p)
 
-abbrev Either : ℕ → Type 0
-Either number = (number ≡ 51) ⊎ (number ≡ 52)
-
-large-either : (kind : Kind) (index : ℕ) → Either (largeNumber kind index)
-large-either consumer index = go (isOfTestDay index)
-  where
-    go : (t : Bool) → Either (cond t 51 52)
-    go true = inl refl
-    go false = inr refl
-large-either generator index = inl refl
-large-either mixedFiring index = inl refl
-large-either unknown index = inl refl
-
 -- ---- a table with the rows of a value in it
 
 module _ (tag : ℕ) (value : List ℕ) where
-  abbrev unfit : ℕ
-  unfit = unfitNumber (kindOf tag)
-
-  abbrev large : ℕ
-  large = largeNumber (kindOf tag) (largeAt (kindOf tag) value)
-
   -- a number about a reading is told of a large one, in a value that fits
   value-told : isOfReadingOr17 (firstOf (valueRows tag value)) ≡ true
-      → (firstOf (unfitRow tag value) ≡ 0) × (hasLarge (kindOf tag) value ≡ true) × (firstOf (valueRows tag value) ≡ large)
+      → (firstOf (unfitRow tag value) ≡ 0) × (hasLarge (kindOf tag) value ≡ true) × (firstOf (valueRows tag value) ≡ large tag value)
   value-told t = go (isUnfit (kindOf tag) value) (hasLarge (kindOf tag) value) t
     where
-      go : (u l : Bool) → isOfReadingOr17 (cond u unfit (cond l large 0)) ≡ true
-          → (cond u unfit 0 ≡ 0) × (l ≡ true) × (cond u unfit (cond l large 0) ≡ large)
+      go : (u l : Bool) → isOfReadingOr17 (cond u (unfit tag value) (cond l (large tag value) 0)) ≡ true
+          → (cond u (unfit tag value) 0 ≡ 0) × (l ≡ true) × (cond u (unfit tag value) (cond l (large tag value) 0) ≡ large tag value)
       go true l t = absurd (true≢false (sym t ∙ unfit-other (kindOf tag)))
       go false true t = (refl, refl, refl)
       go false false t = absurd (true≢false (sym t))
@@ -101,7 +82,7 @@ module _ (tag : ℕ) (value : List ℕ) where
       {refusal : ℕ} (e : refusal ≡ firstOf (before ++ (valueRows tag value ++ after))) where
     -- of a refusal about a reading
     told-large : isOfReadingOr17 refusal ≡ true
-        → (firstOf (before ++ unfitRow tag value) ≡ 0) × (hasLarge (kindOf tag) value ≡ true) × (refusal ≡ large)
+        → (firstOf (before ++ unfitRow tag value) ≡ 0) × (hasLarge (kindOf tag) value ≡ true) × (refusal ≡ large tag value)
     told-large t =
         let w = told-within isOfReadingOr17 before (valueRows tag value) after k (values-numbered tag value) refl b a (ap isOfReadingOr17 (sym e) ∙ t) in
         let l = value-told (ap isOfReadingOr17 (sym (w .1) ∙ sym e) ∙ t) in
@@ -109,16 +90,16 @@ module _ (tag : ℕ) (value : List ℕ) where
 
     -- 17 is not told
     pub not-seventeen : refusal ≡ 17 → ⊥
-    not-seventeen z = omega (arith, told-large (ap isOfReadingOr17 z) .2, large-number (kindOf tag) (largeAt (kindOf tag) value) .0)
+    not-seventeen z = omega (arith, told-large (ap isOfReadingOr17 z) .2, large-above (large-number (kindOf tag) (largeAt (kindOf tag) value)))
 
     -- a large reading is told behind rows that tell none
-    large-is-told : firstOf (before ++ unfitRow tag value) ≡ 0 → hasLarge (kindOf tag) value ≡ true → refusal ≡ large
+    large-is-told : firstOf (before ++ unfitRow tag value) ≡ 0 → hasLarge (kindOf tag) value ≡ true → refusal ≡ large tag value
     large-is-told z l = e ∙ passed before (valueRows tag value ++ after) k (both .0) ∙ go (isUnfit (kindOf tag) value) (hasLarge (kindOf tag) value) (both .1) l
       where
         both : (firstOf before ≡ 0) × (firstOf (unfitRow tag value) ≡ 0)
         both = both-accepted before (unfitRow tag value) k z
 
-        go : (u l : Bool) → cond u unfit 0 ≡ 0 → l ≡ true → cond u unfit (cond l large (firstOf after)) ≡ large
+        go : (u l : Bool) → cond u (unfit tag value) 0 ≡ 0 → l ≡ true → cond u (unfit tag value) (cond l (large tag value) (firstOf after)) ≡ large tag value
         go true l z t = absurd (omega (arith, unfit-above (kindOf tag)))
         go false true z t = refl
         go false false z t = absurd (true≢false (sym t))
@@ -131,12 +112,12 @@ module _ (tag : ℕ) (value : List ℕ) where
       first-is t l = rw (index-is t) (first-large-is (kindOf tag) value l)
 
       -- of a consumer, by the index
-      consumer-is : isOfReading refusal ≡ true → refusal ≡ large → tag ≡ consumerTag → (refusal ≡ 51 → index < slotsOfDay) × (refusal ≡ 52 → slotsOfDay ≤ index)
+      consumer-is : isOfReading refusal ≡ true → refusal ≡ large tag value → tag ≡ consumerTag → (refusal ≡ 51 → index < slotsOfDay) × (refusal ≡ 52 → slotsOfDay ≤ index)
       consumer-is t l c =
           let number = ap (λ kind. largeNumber kind (largeAt (kindOf tag) value)) (sym (of-tag tag consumerTag c)) ∙ sym l in
           rw (index-is t) (of-consumer (largeAt (kindOf tag) value) refusal number)
 
-      is-consumer : refusal ≡ large → refusal ≡ 52 → tag ≡ consumerTag
+      is-consumer : refusal ≡ large tag value → refusal ≡ 52 → tag ≡ consumerTag
       is-consumer l z = go (ℕ-discrete tag consumerTag)
         where
           go : Dec (tag ≡ consumerTag) → tag ≡ consumerTag
@@ -150,7 +131,7 @@ module _ (tag : ℕ) (value : List ℕ) where
 
       pub tells-reading : TellsReading (before ++ unfitRow tag value) tag value refusal index
       tells-reading = record {
-        told = λ z j h above. rw (large-is-told z (one-is-large (kindOf tag) value j h above)) (large-either (kindOf tag) (largeAt (kindOf tag) value));
+        told = λ z j h above. rw (large-is-told z (one-is-large (kindOf tag) value j h above)) (large-number (kindOf tag) (largeAt (kindOf tag) value));
         testDay = λ z. let l = told-large (ap isOfReadingOr17 z) in let t = ap isOfReading z in (first-is t (l .1), λ c. consumer-is t (l .2) c .0 z);
         daysBack = λ z.
             let l = told-large (ap isOfReadingOr17 z) in

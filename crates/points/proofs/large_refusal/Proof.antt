@@ -12,7 +12,7 @@ use Rattle.numbers.specs.Refusals.{firstOf}
 use Rattle.numbers.proofs.Parts.{rest-of}
 use Rattle.readings.specs.Readings.{readingLength}
 use Rattle.points.specs.Points.{kindOf, readingsAt, readingsIn, largeAt, largeNumber, hasLarge, largeRow, isOfReading}
-use Rattle.points.proofs.PointKinds.{kind-small, readings-fill, large-number}
+use Rattle.points.proofs.PointKinds.{kind-small, readings-fill, large-number, large-of-reading}
 use Rattle.points.proofs.Indexes.{no-index, index-of}
 use Rattle.points.proofs.large_refusal.Statement.{statement}
 use Rattle.points.proofs.large_refusal.Tie as tie
@@ -61,7 +61,7 @@ returns c =
     let told : c .large-number .result ≡ firstOf (largeRow (tag s) (value s))
     = number ∙ ap (largeNumber (kindOf (tag s))) (index-is at) ∙ simp (has-large at true (lt-ltb _ _ (c .before .if1 .taken)))
     in
-    index-of (tag s) (value s) told (ap isOfReading number ∙ large-number (kindOf (tag s)) (at .first-large .result) .1) (index-is at)
+    index-of (tag s) (value s) told (ap isOfReading number ∙ large-of-reading (large-number (kindOf (tag s)) (at .first-large .result))) (index-is at)
 
 returns-2 : tie.Need-returns-2
 returns-2 c =
