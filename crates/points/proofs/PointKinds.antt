@@ -66,7 +66,16 @@ unfit-other generator = refl
 unfit-other mixedFiring = refl
 unfit-other unknown = refl
 
--- that of a large reading is 51 or 52
+-- that of a large reading is 51 where it is no consumer's
+pub large-other : (tag index : ℕ) → (tag ≡ consumerTag → ⊥) → largeNumber (kindOf tag) index ≡ 51
+large-other tag index n = rw (ne-eqb tag consumerTag n) (go (eqb tag generatorTag) (eqb tag mixedFiringTag))
+  where
+    go : (a b : Bool) → largeNumber (cond a generator (cond b mixedFiring unknown)) index ≡ 51
+    go true b = refl
+    go false true = refl
+    go false false = refl
+
+-- and 51 or 52 in any case
 abbrev pub Large : ℕ → Type 0
 Large number = (number ≡ 51) ⊎ (number ≡ 52)
 
@@ -86,15 +95,6 @@ large-above = ⊎-elim (λ e. omega arith) (λ e. omega arith)
 
 pub large-of-reading : {number : ℕ} → Large number → isOfReading number ≡ true
 large-of-reading = ⊎-elim (ap isOfReading) (ap isOfReading)
-
--- 51 where it is no consumer's
-pub large-other : (tag index : ℕ) → (tag ≡ consumerTag → ⊥) → largeNumber (kindOf tag) index ≡ 51
-large-other tag index n = rw (ne-eqb tag consumerTag n) (go (eqb tag generatorTag) (eqb tag mixedFiringTag))
-  where
-    go : (a b : Bool) → largeNumber (cond a generator (cond b mixedFiring unknown)) index ≡ 51
-    go true b = refl
-    go false true = refl
-    go false false = refl
 
 -- ---- a point of the right form
 
