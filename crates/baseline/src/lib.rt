@@ -1,4 +1,6 @@
 // The four days of a consumer, and its baseline on them: the days end in two arrays of sums, and from these the baseline is worked out.
+#![tactic(auto)]
+
 ghost use Rattle.std.specs.Prelude.{◌≡◌, ◌+◌, ◌*◌, ◌-◌, ◌≤◌};
 ghost use Rattle.numbers.specs.Lists.{run, sum};
 ghost use Rattle.numbers.specs.Slots.{days_used, window_slots};

@@ -1,4 +1,6 @@
 // A whole book: how its reading ends, its closing and the result bytes.
+#![tactic(auto)]
+
 pub mod settling;
 
 use ledger::State;

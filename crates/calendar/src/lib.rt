@@ -1,4 +1,6 @@
 // Dates, their counts and weekdays, marks, eligible days.
+#![tactic(auto)]
+
 ghost use Rattle.std.specs.Prelude.{◌≡◌, [], ◌∷◌, true, not, ◌&&◌, ◌≤◌, eqb};
 ghost use Rattle.numbers.specs.Lists.{run};
 ghost use Rattle.numbers.specs.Refusals.{first_of};

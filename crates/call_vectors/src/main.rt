@@ -1,5 +1,7 @@
 // Reads single calls of the ledger on standard input, makes each and prints its whole answer on a line.
 // docs/VECTORS.md has the form of both.
+#![tactic(auto)]
+
 mod calls;
 mod faults;
 mod parts;

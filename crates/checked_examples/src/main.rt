@@ -1,6 +1,8 @@
 // Runs the checked examples of document 01, and some of CR 1, CR 2 and CR 3, through the operations and prints each with the paper's value,
 // or one worked out by hand, beside it.
 // Those with a star are proved too, of the definitions; here they are seen once in a running program.
+#![tactic(auto)]
+
 mod adding;
 mod closing;
 mod days;

@@ -1,4 +1,6 @@
 // Choosing four days. A day is its number back; the window sum of day k stands at place k - 1 of `sums`.
+#![tactic(auto)]
+
 ghost use Rattle.std.specs.Prelude.{◌≡◌, not, eqb, length, get_or, drop};
 ghost use Rattle.numbers.specs.Lists.{filter};
 ghost use Rattle.numbers.specs.Slots.{days_back, days_used};

@@ -1,4 +1,6 @@
 // A book that comes field by field: one header or one value is held at a time.
+#![tactic(auto)]
+
 ghost use Rattle.std.specs.Prelude.{◌≡◌, ◌≤◌, length};
 ghost use Rattle.heads.specs.Heads.{head_tag, head_length, calendar_tag};
 ghost use Rattle.points.specs.Points.{consumer_length};

@@ -1,4 +1,6 @@
 // Fields of a book, and cutting one off the front of it.
+#![tactic(auto)]
+
 pub mod cutting;
 
 // The bytes of a field's header: a tag, and a length of two bytes.

@@ -1,4 +1,6 @@
 // The lines of the figures of a settled book: its date, its points, the slot totals and the closing figures.
+#![tactic(auto)]
+
 ghost use Rattle.std.specs.Prelude.{◌+◌, ◌≤◌, length};
 ghost use Rattle.numbers.specs.Placing.{Placed};
 ghost use Rattle.figure_lines.specs.FigureLines.{dashed, date, date_line, slot_lines, settled_lines, bid_line};

@@ -1,4 +1,6 @@
 // Slot totals and the closing figures.
+#![tactic(auto)]
+
 pub mod closing;
 pub mod totals;
 

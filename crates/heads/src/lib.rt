@@ -1,4 +1,6 @@
 // The head and the calendar: decoding them, and what opening refuses in them.
+#![tactic(auto)]
+
 ghost use Rattle.std.specs.Prelude.{◌≡◌, ◌≤◌, length};
 ghost use Rattle.numbers.specs.Refusals.{first_of};
 ghost use Rattle.heads.specs.Heads.{head_length, calendar_length, count_at, head_with, head_of};

@@ -1,4 +1,6 @@
 // Whole numbers with a sign.
+#![tactic(auto)]
+
 ghost use Rattle.std.specs.Prelude.{◌≡◌, ℕ, ◌+◌, ◌^◌, ◌≤◌, ◌<◌, pos, nat_abs, ◌+ℤ◌, ◌-ℤ◌, length, get_or};
 ghost use Rattle.std.specs.Int.Signed.{mag};
 ghost use Rattle.numbers.specs.Words.{bytes_of};

@@ -1,4 +1,6 @@
 // The settlement state, and opening, adding and closing, which take it and give it.
+#![tactic(auto)]
+
 ghost use Rattle.std.specs.Prelude.{◌≡◌, length};
 ghost use Rattle.ledger.specs.Operations.{open_of, add_of, places_of, close_of};
 

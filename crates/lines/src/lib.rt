@@ -1,4 +1,6 @@
 // Words and numbers, put from a place on. Each answers the place behind what it put.
+#![tactic(auto)]
+
 ghost use Rattle.std.specs.Prelude.{◌+◌, ◌≤◌, length};
 ghost use Rattle.numbers.specs.Placing.{Placed};
 ghost use Rattle.lines.specs.Numerals.{most_digits, decimal, two_digits, signed};

@@ -1,4 +1,6 @@
 // Points: the tests of a point's value that need no state, and its number.
+#![tactic(auto)]
+
 ghost use Rattle.std.specs.Prelude.{◌≡◌, ◌≤◌, ◌-◌, length, get_or};
 ghost use Rattle.numbers.specs.Refusals.{first_of};
 ghost use Rattle.heads.specs.Limits.{low_class, extra_high_class};

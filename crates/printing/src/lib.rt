@@ -1,4 +1,6 @@
 // The text of a settled or refused book, as settle_book prints it.
+#![tactic(auto)]
+
 ghost use Rattle.std.specs.Prelude.{◌≡◌, ◌≤◌, length};
 ghost use Rattle.io.specs.Counts.{IsPrefixLen};
 ghost use Rattle.numbers.specs.Placing.{at_front};

@@ -1,4 +1,6 @@
 // A consumer's readings, of four bytes each: the test day's 48, then those of days 1 to 30 back.
+#![tactic(auto)]
+
 ghost use Rattle.std.specs.Prelude.{◌≡◌, ◌<◌, ◌≤◌, ◌+◌, ◌-◌, ◌*◌, ◌/◌, ◌%◌, length, drop};
 ghost use Rattle.numbers.specs.Lists.{run, sum};
 ghost use Rattle.numbers.specs.Slots.{days_back, window_slots};

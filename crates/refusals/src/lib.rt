@@ -1,4 +1,5 @@
 // The refusals of document 01, 'Operations and their refusals', and of the change requests to it, by name. 0 is accepted.
+#![tactic(auto)]
 
 pub const ACCEPTED: u32 = 0;
 

@@ -1,4 +1,6 @@
 // Slot results, by kind of point: the six results of a value that passed its tests, and the days that are told.
+#![tactic(auto)]
+
 ghost use Rattle.std.specs.Prelude.{◌≡◌, ◌≤◌, length};
 ghost use Rattle.numbers.specs.Lists.{run};
 ghost use Rattle.numbers.specs.Slots.{window_slots};

@@ -1,4 +1,6 @@
 // Settles the test book on standard input, holding one field at a time, and prints its figures or its refusal.
+#![tactic(auto)]
+
 ghost use Rattle.std.specs.Prelude.{◌≡◌, ◌≤◌, length};
 ghost use Rattle.io.specs.Counts.{IsPrefixLen};
 ghost use Rattle.numbers.specs.Placing.{at_front};

@@ -1,4 +1,6 @@
 // The C interface: numbers and byte slices. include/tembuyas.h declares it.
+#![tactic(auto)]
+
 ghost use Rattle.std.specs.Prelude.{◌≡◌, ◌/◌, ◌%◌, ◌^◌, length};
 ghost use Rattle.writing.specs.Writing.{head_writing_refusal, head_writing_out, point_writing_answer, point_writing_out};
 ghost use Rattle.book.specs.Settling.{settling_refusal, settling_result};

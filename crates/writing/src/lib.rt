@@ -1,4 +1,6 @@
 // Writing a head with its calendar, or a point, at the front of the lent bytes.
+#![tactic(auto)]
+
 ghost use Rattle.std.specs.Prelude.{◌≡◌, ◌+◌, ◌<◌, ◌≤◌, length};
 ghost use Rattle.numbers.specs.Placing.{at_front};
 ghost use Rattle.fields.specs.Fields.{header_length, written};
