@@ -20,7 +20,7 @@ const TOTALS_AT: usize = 53;
 const LAST_AT: usize = 101;
 
 // A part with its length in front; a part that is not whole has no length.
-#[derive(Drop)]
+#[derive(Clone, Copy)]
 pub struct Part {
     pub whole: bool,
     pub length: usize,

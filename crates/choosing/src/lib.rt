@@ -14,14 +14,14 @@ use numbers::{DAYS_BACK, DAYS_USED};
 const ROUND_DAYS: usize = 5;
 
 // The four days, nearest first, or four zeros where there are not enough.
-#[derive(Drop)]
+#[derive(Clone, Copy)]
 pub struct Chosen {
     pub enough: bool,
     pub days: [usize; DAYS_USED],
 }
 
 // The days of a round, nearest first: the first `count` of `days`, and their window sums together.
-#[derive(Drop)]
+#[derive(Clone, Copy)]
 struct Round {
     days: [usize; ROUND_DAYS],
     count: usize,
@@ -29,7 +29,7 @@ struct Round {
 }
 
 // How many days a round has, and their window sums together.
-#[derive(Drop)]
+#[derive(Clone, Copy)]
 struct CountAndSum {
     count: usize,
     all: u64,

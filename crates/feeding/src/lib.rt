@@ -14,7 +14,7 @@ use ledger::State;
 use numbers::WINDOW_SLOTS;
 
 // What is waited for: a header, the value behind one, the end of the book, or nothing more.
-#[derive(Drop)]
+#[derive(Clone, Copy)]
 pub enum Wait {
     Header(Due),
     Value(Due, u8),
@@ -23,7 +23,7 @@ pub enum Wait {
 }
 
 // The head is kept until the calendar comes. Once nothing more is waited for, the refusal, or 0 and the state after the last point.
-#[derive(Drop)]
+#[derive(Clone, Copy)]
 pub struct Progress {
     pub wait: Wait,
     pub head: [u8; HEAD_LENGTH],

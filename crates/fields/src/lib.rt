@@ -7,7 +7,7 @@ pub mod cutting;
 pub const HEADER_LENGTH: usize = 3;
 
 // Which field is due at a place of the book.
-#[derive(Drop)]
+#[derive(Clone, Copy)]
 pub enum Due {
     Head,
     Calendar,
@@ -15,7 +15,7 @@ pub enum Due {
 }
 
 // The field answer: the tag and the length of the value, or the refusal that ends the reading.
-#[derive(Drop)]
+#[derive(Clone, Copy)]
 pub enum Field {
     Value(u8, usize),
     Refused(u32),

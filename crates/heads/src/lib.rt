@@ -53,7 +53,7 @@ const CONTRACT_AT: usize = 11;
 pub const COUNT_AT: usize = 15;
 
 // The values of a head (document 01, 'The test book').
-#[derive(Drop)]
+#[derive(Clone, Copy)]
 pub struct Head {
     pub year: u16,
     pub month: u8,

@@ -12,7 +12,7 @@ use heads::Head;
 use numbers::{DAYS_BACK, DAYS_USED, NUMBER_LENGTH, WINDOW_SLOTS};
 
 // The settlement state. It goes in and comes back by value, and no field of it is trusted.
-#[derive(Drop)]
+#[derive(Clone, Copy)]
 pub struct State {
     pub head: Head,
     // day 1 back first
@@ -26,7 +26,7 @@ pub struct State {
 }
 
 // The answer of opening; refusal 0 is accepted.
-#[derive(Drop)]
+#[derive(Clone, Copy)]
 pub struct Opened {
     pub refusal: u32,
     pub state: State,
@@ -34,7 +34,7 @@ pub struct Opened {
 
 // The answer of adding. The days are numbers back, nearest first; zeros of a refused call and of a point that is no consumer. The index
 // is that of the reading which is too large; 0 of every other answer.
-#[derive(Drop)]
+#[derive(Clone, Copy)]
 pub struct Added {
     pub refusal: u32,
     pub state: State,
@@ -43,7 +43,7 @@ pub struct Added {
 }
 
 // The answer of closing.
-#[derive(Drop)]
+#[derive(Clone, Copy)]
 pub struct Closed {
     pub refusal: u32,
     pub figures: Figures,

@@ -51,7 +51,7 @@ const MOST_BASELINE: u32 = 1000000;
 const MOST_SHARE: u16 = 1000;
 
 // A refusal of a point, 0 is accepted, and the index of the reading that it is about, 0 where it is about none.
-#[derive(Drop)]
+#[derive(Clone, Copy)]
 pub struct Refusal {
     pub number: u32,
     pub index: u32,

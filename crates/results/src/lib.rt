@@ -22,7 +22,7 @@ use points::{
 use readings::READING_LENGTH;
 
 // The six results and, of a consumer, its four days; zeros where there are not four.
-#[derive(Drop)]
+#[derive(Clone, Copy)]
 pub struct Found {
     pub enough: bool,
     pub found: [i64; WINDOW_SLOTS],
