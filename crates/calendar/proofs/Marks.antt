@@ -5,10 +5,10 @@ use mathlib.Core.List.{[], ◌∷◌}
 use Prim.Native.Nat.{ℕ}
 use native.Mathlib.Omega.{arith}
 use Rattle.numbers.specs.Lists.{any}
-use Rattle.numbers.specs.Refusals.{first_of}
+use Rattle.numbers.specs.Refusals.{first_told}
 use Rattle.calendar.specs.Eligible.{is_mark, mark_row}
 
-pub mark_told : (mark : ℕ) → (first_of (mark_row (mark ∷ [])) ≡ 0 → ⊥) → not (is_mark mark) ≡ true
+pub mark_told : (mark : ℕ) → (first_told (mark_row (mark ∷ [])) ≡ 0 → ⊥) → not (is_mark mark) ≡ true
 unfolding any
 mark_told mark = go (not (is_mark mark))
   where
@@ -16,7 +16,7 @@ mark_told mark = go (not (is_mark mark))
     go true n = refl
     go false n = absurd (n refl)
 
-pub mark_passed : (mark : ℕ) → first_of (mark_row (mark ∷ [])) ≡ 0 → not (is_mark mark) ≡ false
+pub mark_passed : (mark : ℕ) → first_told (mark_row (mark ∷ [])) ≡ 0 → not (is_mark mark) ≡ false
 unfolding any
 mark_passed mark = go (not (is_mark mark))
   where

@@ -3,7 +3,7 @@
 
 ghost use Rattle.std.specs.Prelude.{◌≡◌, [], ◌∷◌, true, not, ◌&&◌, ◌≤◌, eqb};
 ghost use Rattle.numbers.specs.Lists.{run};
-ghost use Rattle.numbers.specs.Refusals.{first_of};
+ghost use Rattle.numbers.specs.Refusals.{first_told};
 ghost use Rattle.numbers.specs.Slots.{days_back};
 ghost use Rattle.calendar.specs.Dates.{first_day, last_day, IsMonth, is_leap, days_in, common_days_before, days_before, is_date};
 ghost use Rattle.calendar.specs.Dates.{day_count, is_weekend};
@@ -97,7 +97,7 @@ pub fn is_weekend(count: u32) -> bool
 
 // A mark that is none of the four.
 fn mark_refusal(mark: u8) -> u32
-    ensures { result ≡ first_of (mark_row (mark ∷ [])) }
+    ensures { result ≡ first_told (mark_row (mark ∷ [])) }
 {
     match mark {
         NO_MARK | NATIONAL_HOLIDAY | EARLIER_DISPATCH | ECONOMIC_DISPATCH => refusals::ACCEPTED,
@@ -107,7 +107,7 @@ fn mark_refusal(mark: u8) -> u32
 
 // Marks of which one is none of the four.
 pub fn marks_refusal(marks: &[u8]) -> u32
-    ensures { result ≡ first_of (mark_row marks.now) }
+    ensures { result ≡ first_told (mark_row marks.now) }
 {
     let mut k: usize = 0;
     while k < marks.len() {

@@ -7,7 +7,7 @@ use native.Mathlib.Omega.{arith}
 use lib.Dec.{T, eqb}
 use mir.Facts.{no_eqb}
 use Rattle.numbers.specs.Lists.{any}
-use Rattle.numbers.specs.Refusals.{first_of}
+use Rattle.numbers.specs.Refusals.{first_told}
 use Rattle.numbers.proofs.Tests.{none_of, none_cons, none_append}
 use Rattle.numbers.proofs.NeverTold.{Without, never}
 use Rattle.calendar.specs.Dates.{is_date}
@@ -36,7 +36,7 @@ nothing_closed = rw nothing_unsound
 
 -- ---- of a sound state 9 is not told
 
-not_nine_in : (rows : List (Bool × ℕ)) → Without (λ n. eqb n 9) rows → T (not (eqb (first_of rows) 9))
+not_nine_in : (rows : List (Bool × ℕ)) → Without (λ n. eqb n 9) rows → T (not (eqb (first_told rows) 9))
 not_nine_in rows t = rw (never (λ n. eqb n 9) rows refl t) tt
 
 module _ (state : State) (s : Sound state) where

@@ -8,7 +8,7 @@ use borrow.Author.Tests.{ltb-false, eqb-true, not-false, le-ltb, eq-eqb, ne_eqb}
 use lib.Dec.{T, eqb}
 use lib.ListN.{length}
 use Rattle.numbers.specs.Words.{word16}
-use Rattle.numbers.specs.Refusals.{first_of}
+use Rattle.numbers.specs.Refusals.{first_told}
 use Rattle.numbers.proofs.Refusals.{numbered, clear}
 use Rattle.points.specs.Points.{consumer_length, kind_of, is_unknown, tag_row}
 use Rattle.points.proofs.PointKinds.{kind_small}
@@ -28,7 +28,7 @@ pub some_bytes : (due : Due) (n : ℕ) → (n ≡ 0 → ⊥) → (is_point due &
 some_bytes due n h = rw (ne_eqb n 0 h) (and-false (is_point due))
 
 -- where a point is due, its tag is tested as adding does
-pub point_tag : (tag : ℕ) → first_of (tag_row tag) ≡ first_of (due_tag_row Point tag)
+pub point_tag : (tag : ℕ) → first_told (tag_row tag) ≡ first_told (due_tag_row Point tag)
 point_tag tag = go (is_unknown (kind_of tag))
   where
     go : (b : Bool) → cond {A = ℕ} b 11 0 ≡ cond (not (not b)) 11 0

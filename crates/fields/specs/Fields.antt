@@ -1,7 +1,7 @@
 -- Fields (document 01, 'The test book'): 'tag of one byte, length of two bytes, value'. `left` is what is left of the book.
 use Rattle.std.specs.Prelude.{Bool, true, false, cond, not, ◌&&◌, List, [], ◌∷◌, ◌++◌, ℕ, ◌+◌, ltb, eqb, length, get_or, take, drop}
 use Rattle.numbers.specs.Words.{word16, bytes_of}
-use Rattle.numbers.specs.Refusals.{first_of}
+use Rattle.numbers.specs.Refusals.{first_told}
 use Rattle.heads.specs.Heads.{head_tag, head_length, calendar_tag, calendar_length}
 use Rattle.points.specs.Points.{kind_of, is_unknown, size_of}
 use Rattle.fields.specs.declared.Due.{Due}
@@ -54,7 +54,7 @@ header_tests due left =
     short_rows due (length left) ++ due_tag_row due (tag_at left) ++ due_length_row due (tag_at left) (word16 left length_at)
 
 unfoldable pub header_refusal : Due → List ℕ → ℕ
-header_refusal due left = first_of (header_tests due left)
+header_refusal due left = first_told (header_tests due left)
 
 -- '31: value cut'
 abbrev pub cut_row : Due → List ℕ → List (Bool × ℕ)
@@ -64,7 +64,7 @@ abbrev pub field_tests : Due → List ℕ → List (Bool × ℕ)
 field_tests due left = header_tests due left ++ cut_row due left
 
 unfoldable pub field_refusal : Due → List ℕ → ℕ
-field_refusal due left = first_of (field_tests due left)
+field_refusal due left = first_told (field_tests due left)
 
 -- THE FIELD ANSWER
 unfoldable pub field_of : Due → List ℕ → Field

@@ -1,6 +1,6 @@
 // Cutting a field off the front of what is left of the book.
 ghost use Rattle.std.specs.Prelude.{◌≡◌, ◌≤◌};
-ghost use Rattle.numbers.specs.Refusals.{first_of};
+ghost use Rattle.numbers.specs.Refusals.{first_told};
 ghost use Rattle.points.specs.Points.{consumer_length};
 ghost use Rattle.fields.specs.Fields.{length_due, short_rows, due_tag_row, due_length_row};
 ghost use Rattle.fields.specs.Fields.{header_refusal, field_of, refusal_of};
@@ -35,7 +35,7 @@ pub fn length_due(due: Due, tag: u8) -> usize
 
 // Under three bytes left; none where a point is due is a count that is not reached.
 fn short_refusal(due: Due, left: usize) -> u32
-    ensures { result ≡ first_of (short_rows due left) }
+    ensures { result ≡ first_told (short_rows due left) }
 {
     if HEADER_LENGTH <= left {
         return refusals::ACCEPTED;
@@ -52,7 +52,7 @@ fn short_refusal(due: Due, left: usize) -> u32
 
 // A tag that may not stand where a head is due.
 fn head_tag_refusal(tag: u8) -> u32
-    ensures { result ≡ first_of (due_tag_row Head tag) }
+    ensures { result ≡ first_told (due_tag_row Head tag) }
 {
     match tag {
         heads::HEAD_TAG => refusals::ACCEPTED,
@@ -62,7 +62,7 @@ fn head_tag_refusal(tag: u8) -> u32
 
 // A tag that may not stand where a calendar is due.
 fn calendar_tag_refusal(tag: u8) -> u32
-    ensures { result ≡ first_of (due_tag_row Calendar tag) }
+    ensures { result ≡ first_told (due_tag_row Calendar tag) }
 {
     match tag {
         heads::CALENDAR_TAG => refusals::ACCEPTED,
@@ -72,7 +72,7 @@ fn calendar_tag_refusal(tag: u8) -> u32
 
 // A tag that may not stand where a field is due.
 fn tag_refusal(due: Due, tag: u8) -> u32
-    ensures { result ≡ first_of (due_tag_row due tag) }
+    ensures { result ≡ first_told (due_tag_row due tag) }
 {
     match due {
         Due::Head => head_tag_refusal(tag),
@@ -83,7 +83,7 @@ fn tag_refusal(due: Due, tag: u8) -> u32
 
 // A length that is not the one due.
 fn length_refusal(due: Due, tag: u8, size: usize) -> u32
-    ensures { result ≡ first_of (due_length_row due tag size) }
+    ensures { result ≡ first_told (due_length_row due tag size) }
 {
     if size == length_due(due, tag) {
         return refusals::ACCEPTED;

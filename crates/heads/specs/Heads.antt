@@ -2,7 +2,7 @@
 use Rattle.std.specs.Prelude.{Bool, not, ◌&&◌, ◌||◌, List, [], ◌∷◌, ◌++◌, ℕ, leb, ltb, eqb, length, get_or}
 use Rattle.numbers.specs.Lists.{any}
 use Rattle.numbers.specs.Words.{word16, word32}
-use Rattle.numbers.specs.Refusals.{first_of}
+use Rattle.numbers.specs.Refusals.{first_told}
 use Rattle.calendar.specs.Dates.{is_date, day_count, is_weekend}
 use Rattle.calendar.specs.Eligible.{mark_row}
 use Rattle.heads.specs.Limits.{earliest_slot, latest_slot, most_loss, least_contract, most_contract, least_points, most_points}
@@ -121,11 +121,11 @@ content_tests range h marks =
     ++ mark_row marks
 
 unfoldable pub content_refusal : Head → List ℕ → ℕ
-content_refusal h marks = first_of (content_tests counts h marks)
+content_refusal h marks = first_told (content_tests counts h marks)
 
 -- 1 to 8, on the bytes of a head and of a calendar, whose bytes are the marks
 abbrev pub opening_tests : List ℕ → List ℕ → List (Bool × ℕ)
 opening_tests head calendar = lengths_row head calendar ++ content_tests counts (head_of head) calendar
 
 unfoldable pub opening_refusal : List ℕ → List ℕ → ℕ
-opening_refusal head calendar = first_of (opening_tests head calendar)
+opening_refusal head calendar = first_told (opening_tests head calendar)

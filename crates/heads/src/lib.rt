@@ -2,7 +2,7 @@
 #![tactic(auto)]
 
 ghost use Rattle.std.specs.Prelude.{◌≡◌, ◌≤◌, length};
-ghost use Rattle.numbers.specs.Refusals.{first_of};
+ghost use Rattle.numbers.specs.Refusals.{first_told};
 ghost use Rattle.heads.specs.Heads.{head_length, calendar_length, count_at, head_with, head_of};
 ghost use Rattle.heads.specs.Heads.{day_rows, slot_row, loss_row, contract_row, counts, count_row};
 ghost use Rattle.heads.specs.Heads.{content_refusal, opening_refusal};
@@ -112,7 +112,7 @@ pub fn marks_of(bytes: &[u8]) -> [u8; DAYS_BACK]
 
 // No such date, or a Saturday or Sunday.
 fn day_refusal(head: Head) -> u32
-    ensures { result ≡ first_of (day_rows head) }
+    ensures { result ≡ first_told (day_rows head) }
 {
     let year = head.year;
     let month = head.month;
@@ -128,7 +128,7 @@ fn day_refusal(head: Head) -> u32
 
 // The window begins at 9:00 at the earliest and ends at 20:00 at the latest.
 fn slot_refusal(slot: u8) -> u32
-    ensures { result ≡ first_of (slot_row slot) }
+    ensures { result ≡ first_told (slot_row slot) }
 {
     match slot {
         EARLIEST_SLOT..=LATEST_SLOT => refusals::ACCEPTED,
@@ -138,7 +138,7 @@ fn slot_refusal(slot: u8) -> u32
 
 // A loss above fifty percent.
 fn loss_refusal(losses: [u16; 3]) -> u32
-    ensures { result ≡ first_of (loss_row losses) }
+    ensures { result ≡ first_told (loss_row losses) }
 {
     if MOST_LOSS < losses[0] {
         return refusals::LOSS;
@@ -154,7 +154,7 @@ fn loss_refusal(losses: [u16; 3]) -> u32
 
 // No contract, or one of 1,000 to 10,000,000 kW.
 pub fn contract_refusal(contract: u64) -> u32
-    ensures { result ≡ first_of (contract_row contract) }
+    ensures { result ≡ first_told (contract_row contract) }
 {
     match contract {
         0 | LEAST_CONTRACT..=MOST_CONTRACT => refusals::ACCEPTED,
@@ -164,7 +164,7 @@ pub fn contract_refusal(contract: u64) -> u32
 
 // A list has 1 to 10,000 points.
 pub fn count_refusal(count: u32) -> u32
-    ensures { result ≡ first_of (count_row counts count) }
+    ensures { result ≡ first_told (count_row counts count) }
 {
     match count {
         LEAST_POINTS..=MOST_POINTS => refusals::ACCEPTED,

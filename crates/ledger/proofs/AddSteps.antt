@@ -9,7 +9,7 @@ use lib.ListN.{length, get_or}
 use borrow.Author.Tests.{eq-eqb, ne_eqb, not-true, not-false}
 use Rattle.numbers.specs.Slots.{no_days}
 use Rattle.numbers.specs.PointNumbers.{number_length}
-use Rattle.numbers.specs.Refusals.{first_of}
+use Rattle.numbers.specs.Refusals.{first_told}
 use Rattle.numbers.proofs.Refusals.{untold, told, passed, both_accepted}
 use Rattle.heads.specs.declared.Head.{Head}
 use Rattle.heads.proofs.Opening.{opens}
@@ -47,7 +47,7 @@ pub record Early (state : State) (tag : ℕ) (value : List ℕ) (places : ℕ) :
   pub sound : Sound state
   pub given : Given state.head state.points (kind_of tag) value places
   -- 18 is told, or the point taken
-  pub days : adding_refusal state tag value places ≡ first_of (days_row state.head state.marks tag value)
+  pub days : adding_refusal state tag value places ≡ first_told (days_row state.head state.marks tag value)
   -- every point has its number
   pub numbered : number_length ≤ length value
   -- points and sums stay within their types

@@ -10,7 +10,7 @@ use mir.Facts.{eqb_yes}
 use borrow.Author.Tests.{leb-false}
 use Rattle.numbers.specs.Slots.{window_slots}
 use Rattle.numbers.specs.PointNumbers.{is_number}
-use Rattle.numbers.specs.Refusals.{first_of}
+use Rattle.numbers.specs.Refusals.{first_told}
 use Rattle.numbers.proofs.Refusals.{untold, both_accepted}
 use Rattle.numbers.proofs.Tests.{none_of, any_map}
 use Rattle.heads.specs.Limits.{most_result}
@@ -33,7 +33,7 @@ pub record Given (h : Head) (points : ℕ) (kind : Kind) (value : List ℕ) (pla
   pub small : has_large kind value ≡ false
 
 module _ (h : Head) (points : ℕ) (last : List ℕ) (tag : ℕ) (value : List ℕ) (places : ℕ) where
-  pub given : first_of (given_tests h points last tag value places) ≡ 0 → Given h points (kind_of tag) value places
+  pub given : first_told (given_tests h points last tag value places) ≡ 0 → Given h points (kind_of tag) value places
   given e =
       let before = before_value h points last tag value places in
       let accepted = both_accepted before (value_rows tag value) tt e in

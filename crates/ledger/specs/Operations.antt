@@ -1,6 +1,6 @@
 -- OPENING, ADDING and CLOSING (document 01, 'Operations and their refusals'): what each answers, for every input and every state.
 use Rattle.std.specs.Prelude.{Bool, cond, not, ◌&&◌, List, [], ◌∷◌, ◌++◌, ℕ, leb, ltb, eqb, ℤ, length}
-use Rattle.numbers.specs.Refusals.{first_of}
+use Rattle.numbers.specs.Refusals.{first_told}
 use Rattle.numbers.specs.Slots.{no_days, window_slots}
 use Rattle.numbers.specs.PointNumbers.{below}
 use Rattle.heads.specs.Heads.{head_of, opening_refusal}
@@ -66,7 +66,7 @@ abbrev pub point_tests : Head → List ℕ → ℕ → List ℕ → ℕ → List
 point_tests h marks points last tag value places = given_tests h points last tag value places ++ days_row h marks tag value
 
 unfoldable pub point_refusal : Head → List ℕ → ℕ → List ℕ → ℕ → List ℕ → ℕ → ℕ
-point_refusal h marks points last tag value places = first_of (point_tests h marks points last tag value places)
+point_refusal h marks points last tag value places = first_told (point_tests h marks points last tag value places)
 
 -- with 9 before them, for a tag, a value and the number of places lent
 abbrev pub adding_tests : State → ℕ → List ℕ → ℕ → List (Bool × ℕ)
@@ -74,7 +74,7 @@ adding_tests state tag value places =
     unsound_row state ++ point_tests state.head state.marks state.points state.last tag value places
 
 unfoldable pub adding_refusal : State → ℕ → List ℕ → ℕ → ℕ
-adding_refusal state tag value places = first_of (adding_tests state tag value places)
+adding_refusal state tag value places = first_told (adding_tests state tag value places)
 
 -- in the steps of the code: the state, 9 and 10, and all that comes before the days
 abbrev pub state_rows : State → List (Bool × ℕ)
@@ -85,7 +85,7 @@ early_tests state tag value places =
     unsound_row state ++ given_tests state.head state.points state.last tag value places
 
 unfoldable pub early_refusal : State → ℕ → List ℕ → ℕ → ℕ
-early_refusal state tag value places = first_of (early_tests state tag value places)
+early_refusal state tag value places = first_told (early_tests state tag value places)
 
 -- the results of a value for a state
 abbrev pub results_of : State → ℕ → List ℕ → List ℤ
@@ -119,7 +119,7 @@ abbrev pub closing_tests : State → List (Bool × ℕ)
 closing_tests state = unsound_row state ++ unreached_row state.head state.points
 
 unfoldable pub closing_refusal : State → ℕ
-closing_refusal state = first_of (closing_tests state)
+closing_refusal state = first_told (closing_tests state)
 
 unfoldable pub close_of : State → Closed
 close_of state =

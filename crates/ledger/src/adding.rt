@@ -1,6 +1,6 @@
 // The refusals of adding, in the order in which they are told.
 ghost use Rattle.std.specs.Prelude.{◌≡◌};
-ghost use Rattle.numbers.specs.Refusals.{first_of};
+ghost use Rattle.numbers.specs.Refusals.{first_told};
 ghost use Rattle.points.specs.Points.{with_index};
 ghost use Rattle.ledger.specs.Operations.{number_rows, state_rows, early_refusal};
 
@@ -10,7 +10,7 @@ use points::Refusal;
 
 // A number that is not allowed, or not above the last one; the first point has none before it.
 fn number_refusal(number: &[u8], points: u32, last: [u8; NUMBER_LENGTH]) -> u32
-    ensures { result ≡ first_of (number_rows points last number.now) }
+    ensures { result ≡ first_told (number_rows points last number.now) }
 {
     if !numbers::is_number(number) {
         return refusals::POINT_NUMBER;
@@ -26,7 +26,7 @@ fn number_refusal(number: &[u8], points: u32, last: [u8; NUMBER_LENGTH]) -> u32
 
 // A state that 9 refuses, or one whose count is reached.
 fn state_refusal(state: State) -> u32
-    ensures { result ≡ first_of (state_rows state) }
+    ensures { result ≡ first_told (state_rows state) }
 {
     if states::is_unsound(state) {
         return refusals::UNSOUND_STATE;

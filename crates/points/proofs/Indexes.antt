@@ -3,7 +3,7 @@ use mathlib.Core.Path.{◌≡◌, refl, ap, sym, ◌∙◌}
 use mathlib.Core.Bool.{Bool, true, false}
 use mathlib.Core.List.{List}
 use Prim.Native.Nat.{ℕ}
-use Rattle.numbers.specs.Refusals.{first_of}
+use Rattle.numbers.specs.Refusals.{first_told}
 use Rattle.numbers.proofs.NeverTold.{Without, never}
 use Rattle.points.specs.Points.{kind_of, large_at, is_of_reading, with_index}
 use Rattle.points.specs.declared.Refusal.{Refusal}
@@ -14,7 +14,7 @@ module _ (tag : ℕ) (value : List ℕ) where
   no_index e u = rw (← e) (simp u)
 
   -- one that a group of rows tells of which none is
-  pub no_index_in : (rows : List (Bool × ℕ)) {n refusal : ℕ} → Without is_of_reading rows → n ≡ first_of rows → n ≡ refusal
+  pub no_index_in : (rows : List (Bool × ℕ)) {n refusal : ℕ} → Without is_of_reading rows → n ≡ first_told rows → n ≡ refusal
       → record { number = n; index = 0 } ≡ with_index refusal tag value
   no_index_in rows t e f = no_index f (ap is_of_reading e ∙ never is_of_reading rows refl t)
 

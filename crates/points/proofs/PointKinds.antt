@@ -8,7 +8,7 @@ use native.Mathlib.Omega.{arith}
 use lib.Dec.{T, eqb}
 use borrow.Author.Tests.{eqb-true, not-false, ne_eqb, lt-ltb}
 use Rattle.numbers.specs.Lists.{any}
-use Rattle.numbers.specs.Refusals.{first_of}
+use Rattle.numbers.specs.Refusals.{first_told}
 use Rattle.numbers.proofs.Refusals.{numbered, clear, untold}
 use Rattle.numbers.proofs.Tests.{none_of}
 use Rattle.numbers.specs.PointNumbers.{number_length}
@@ -98,7 +98,7 @@ large_of_reading = ⊎_elim (ap is_of_reading) (ap is_of_reading)
 
 -- ---- a point of the right form
 
-module _ (tag size : ℕ) (form : first_of (form_rows tag size) ≡ 0) where
+module _ (tag size : ℕ) (form : first_told (form_rows tag size) ≡ 0) where
   pub right_length : size ≡ size_of (kind_of tag)
   right_length = eqb-true _ _ (not-false _ (untold (form_rows tag size) tt form 12))
 
@@ -131,7 +131,7 @@ module _ (tag : ℕ) (value : List ℕ) where
   unfolding any
   values_above n h = rw (ne_eqb unfit n (λ e. omega (arith, rows_above.0)), ne_eqb large n (λ e. omega (arith, rows_above.1))) tt
 
-  module _ (accepted : first_of (value_rows tag value) ≡ 0) where
+  module _ (accepted : first_told (value_rows tag value) ≡ 0) where
     pub fits : is_unfit (kind_of tag) value ≡ false
     fits = (clear (value_rows tag value) values_numbered accepted).0
 

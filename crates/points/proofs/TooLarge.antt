@@ -10,7 +10,7 @@ use native.Mathlib.Omega.{arith}
 use lib.Dec.{T, ltb, eqb}
 use lib.Seq.{get_or-drop}
 use borrow.Author.Tests.{ltb-true, ltb-false, ne_eqb}
-use Rattle.numbers.specs.Refusals.{first_of}
+use Rattle.numbers.specs.Refusals.{first_told}
 use Rattle.numbers.specs.Slots.{slots_of_day}
 use Rattle.numbers.specs.Words.{word32}
 use Rattle.numbers.proofs.Refusals.{numbered, passed, both_accepted}
@@ -68,8 +68,8 @@ of_consumer index number e = go (is_of_test_day index) refl e
 
 module _ (tag : ℕ) (value : List ℕ) where
   -- a number about a reading is told of a large one, in a value that fits
-  value_told : is_of_reading_or17 (first_of (value_rows tag value)) ≡ true
-      → (first_of (unfit_row tag value) ≡ 0) × (has_large (kind_of tag) value ≡ true) × (first_of (value_rows tag value) ≡ large tag value)
+  value_told : is_of_reading_or17 (first_told (value_rows tag value)) ≡ true
+      → (first_told (unfit_row tag value) ≡ 0) × (has_large (kind_of tag) value ≡ true) × (first_told (value_rows tag value) ≡ large tag value)
   value_told t = go (is_unfit (kind_of tag) value) (has_large (kind_of tag) value) t
     where
       go : (u l : Bool) → is_of_reading_or17 (cond u (unfit tag value) (cond l (large tag value) 0)) ≡ true
@@ -79,10 +79,10 @@ module _ (tag : ℕ) (value : List ℕ) where
       go false false t = absurd (true≢false (sym t))
 
   module _ (before after : List (Bool × ℕ)) (k : T (numbered before)) (b : Without is_of_reading_or17 before) (a : Without is_of_reading_or17 after)
-      {refusal : ℕ} (e : refusal ≡ first_of (before ++ (value_rows tag value ++ after))) where
+      {refusal : ℕ} (e : refusal ≡ first_told (before ++ (value_rows tag value ++ after))) where
     -- of a refusal about a reading
     told_large : is_of_reading_or17 refusal ≡ true
-        → (first_of (before ++ unfit_row tag value) ≡ 0) × (has_large (kind_of tag) value ≡ true) × (refusal ≡ large tag value)
+        → (first_told (before ++ unfit_row tag value) ≡ 0) × (has_large (kind_of tag) value ≡ true) × (refusal ≡ large tag value)
     told_large t =
         let w = told_within is_of_reading_or17 before (value_rows tag value) after k (values_numbered tag value) refl b a (ap is_of_reading_or17 (sym e) ∙ t) in
         let l = value_told (ap is_of_reading_or17 (sym w.1 ∙ sym e) ∙ t) in
@@ -93,13 +93,13 @@ module _ (tag : ℕ) (value : List ℕ) where
     not_seventeen z = omega (arith, (told_large (ap is_of_reading_or17 z)).2, large_above (large_number_lem (kind_of tag) (large_at (kind_of tag) value)))
 
     -- a large reading is told behind rows that tell none
-    large_is_told : first_of (before ++ unfit_row tag value) ≡ 0 → has_large (kind_of tag) value ≡ true → refusal ≡ large tag value
+    large_is_told : first_told (before ++ unfit_row tag value) ≡ 0 → has_large (kind_of tag) value ≡ true → refusal ≡ large tag value
     large_is_told z l = e ∙ passed before (value_rows tag value ++ after) k both.0 ∙ go (is_unfit (kind_of tag) value) (has_large (kind_of tag) value) both.1 l
       where
-        both : (first_of before ≡ 0) × (first_of (unfit_row tag value) ≡ 0)
+        both : (first_told before ≡ 0) × (first_told (unfit_row tag value) ≡ 0)
         both = both_accepted before (unfit_row tag value) k z
 
-        go : (u l : Bool) → cond u (unfit tag value) 0 ≡ 0 → l ≡ true → cond u (unfit tag value) (cond l (large tag value) (first_of after)) ≡ large tag value
+        go : (u l : Bool) → cond u (unfit tag value) 0 ≡ 0 → l ≡ true → cond u (unfit tag value) (cond l (large tag value) (first_told after)) ≡ large tag value
         go true l z t = absurd (omega (arith, unfit_above (kind_of tag)))
         go false true z t = refl
         go false false z t = absurd (true≢false (sym t))

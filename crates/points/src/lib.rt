@@ -2,7 +2,7 @@
 #![tactic(auto)]
 
 ghost use Rattle.std.specs.Prelude.{◌≡◌, ◌≤◌, ◌-◌, length, get_or};
-ghost use Rattle.numbers.specs.Refusals.{first_of};
+ghost use Rattle.numbers.specs.Refusals.{first_told};
 ghost use Rattle.heads.specs.Limits.{low_class, extra_high_class};
 ghost use Rattle.numbers.specs.PointNumbers.{number_length};
 ghost use Rattle.points.specs.Points.{kind_of, size_of, number_of, readings_at, large_number, with_index};
@@ -59,7 +59,7 @@ pub struct Refusal {
 
 // A tag of no kind of point.
 pub fn tag_refusal(tag: u8) -> u32
-    ensures { result ≡ first_of (tag_row tag) }
+    ensures { result ≡ first_told (tag_row tag) }
 {
     match tag {
         CONSUMER => refusals::ACCEPTED,
@@ -95,7 +95,7 @@ fn readings_at(tag: u8) -> usize
 
 // A class that is none of the three.
 fn class_refusal(class: u8) -> u32
-    ensures { result ≡ first_of (class_row class) }
+    ensures { result ≡ first_told (class_row class) }
 {
     match class {
         LOW..=EXTRA_HIGH => refusals::ACCEPTED,
@@ -105,7 +105,7 @@ fn class_refusal(class: u8) -> u32
 
 // A baseline above the limit.
 fn baseline_refusal(kw: u32) -> u32
-    ensures { result ≡ first_of (baseline_row kw) }
+    ensures { result ≡ first_told (baseline_row kw) }
 {
     match kw {
         0..=MOST_BASELINE => refusals::ACCEPTED,
@@ -115,7 +115,7 @@ fn baseline_refusal(kw: u32) -> u32
 
 // A share above the limit.
 fn share_refusal(share: u16) -> u32
-    ensures { result ≡ first_of (share_row share) }
+    ensures { result ≡ first_told (share_row share) }
 {
     match share {
         0..=MOST_SHARE => refusals::ACCEPTED,
@@ -138,7 +138,7 @@ pub fn loss_of(losses: [u16; 3], class: u8) -> u16
 // A class, a baseline or a share that is not allowed.
 fn unfit_refusal(tag: u8, value: &[u8]) -> u32
     requires { length value.now ≡ size_of (kind_of tag) }
-    ensures { result ≡ first_of (unfit_row tag value.now) }
+    ensures { result ≡ first_told (unfit_row tag value.now) }
 {
     match tag {
         CONSUMER => class_refusal(value[CLASS_AT]),
@@ -164,7 +164,7 @@ fn large_number(tag: u8, index: usize) -> u32
 // A reading above the limit, used or not.
 fn large_refusal(tag: u8, value: &[u8]) -> Refusal
     requires { length value.now ≡ size_of (kind_of tag) }
-    ensures { result ≡ with_index (first_of (large_row tag value.now)) tag value.now }
+    ensures { result ≡ with_index (first_told (large_row tag value.now)) tag value.now }
 {
     let at = readings_at(tag);
     let count = (value.len() - at) / READING_LENGTH;
@@ -198,7 +198,7 @@ pub fn number_of(value: &[u8]) -> [u8; NUMBER_LENGTH]
 
 // A tag of no point, or a value that is not as long as its tag says.
 pub fn form_refusal(tag: u8, length: usize) -> u32
-    ensures { result ≡ first_of (form_rows tag length) }
+    ensures { result ≡ first_told (form_rows tag length) }
 {
     let unknown = tag_refusal(tag);
     if unknown != refusals::ACCEPTED {
@@ -213,7 +213,7 @@ pub fn form_refusal(tag: u8, length: usize) -> u32
 // A class, a baseline, a share or a reading that is not allowed.
 pub fn value_refusal(tag: u8, value: &[u8]) -> Refusal
     requires { length value.now ≡ size_of (kind_of tag) }
-    ensures { result ≡ with_index (first_of (value_rows tag value.now)) tag value.now }
+    ensures { result ≡ with_index (first_told (value_rows tag value.now)) tag value.now }
 {
     let unfit = unfit_refusal(tag, value);
     if unfit != refusals::ACCEPTED {

@@ -13,7 +13,7 @@ use mir.Facts.{and_yes, yes_and}
 use Rattle.numbers.specs.Words.{Bytes}
 use Rattle.numbers.specs.Lists.{gather}
 use Rattle.numbers.specs.PointNumbers.{below}
-use Rattle.numbers.specs.Refusals.{first_of}
+use Rattle.numbers.specs.Refusals.{first_told}
 use Rattle.numbers.proofs.Refusals.{numbered, test_of, untold, clear_zero, passed, both_accepted}
 use Rattle.numbers.proofs.Tests.{no_false}
 use Rattle.heads.specs.Heads.{head_of, opening_tests, opening_refusal}
@@ -88,7 +88,7 @@ writing_untold p e = untold (point_writing_tests p.tag p.value (room_for p)) (va
 
 -- rows that stand in a table, each found there by its number, tell 0 where the table tells none of its numbers
 among : (rows table : List (Bool × ℕ)) → map (λ row. row.0) rows ≡ map (λ row. test_of row.1 table) rows
-    → ((n : ℕ) → test_of n table ≡ false) → first_of rows ≡ 0
+    → ((n : ℕ) → test_of n table ≡ false) → first_told rows ≡ 0
 among [] table same c = refl
 among (row ∷ rows) table same c =
     let here = ap (λ (tests : List Bool). get_or tests 0 false) same ∙ c row.1 in
@@ -156,11 +156,11 @@ module _ (state : State) (p : Point) (e : (add_of state p.tag p.value 6).refusal
   abbrev first : List (Bool × ℕ)
   first = unsound_row state ++ before_value state.head state.points state.last p.tag p.value 6
 
-  first_and_rest : (first_of first ≡ 0) × (first_of (values p ++ days state.head state.marks p) ≡ 0)
+  first_and_rest : (first_told first ≡ 0) × (first_told (values p ++ days state.head state.marks p) ≡ 0)
   unfolding adding_refusal
   first_and_rest = both_accepted first (values p ++ days state.head state.marks p) tt (sym (add_refusal state p.tag p.value 6) ∙ e)
 
-  values_and_days : (first_of (values p) ≡ 0) × (first_of (days state.head state.marks p) ≡ 0)
+  values_and_days : (first_told (values p) ≡ 0) × (first_told (days state.head state.marks p) ≡ 0)
   values_and_days = both_accepted (values p) (days state.head state.marks p) (numbered_here p) first_and_rest.1
 
   first_untold : (n : ℕ) → test_of n first ≡ false

@@ -8,7 +8,7 @@ use borrow.Author.Tests.{eq-eqb}
 use lib.Dec.{eqb}
 use lib.ListN.{length}
 use Rattle.numbers.specs.Lists.{any}
-use Rattle.numbers.specs.Refusals.{first_of}
+use Rattle.numbers.specs.Refusals.{first_told}
 use Rattle.numbers.specs.Slots.{window_slots}
 use Rattle.numbers.proofs.NeverTold.{Without, never}
 use Rattle.heads.specs.Heads.{opening_tests, opening_refusal}
@@ -30,7 +30,7 @@ use Rattle.book.specs.Settling.{result_length, closing_of, settling_refusal}
 use Rattle.book.specs.declared.Ending.{Ending}
 use Rattle.round_trips.specs.Seventeen.{NoSeventeen}
 
-not_told : (rows : List (Bool × ℕ)) → Without (λ n. eqb n 17) rows → first_of rows ≡ 17 → ⊥
+not_told : (rows : List (Bool × ℕ)) → Without (λ n. eqb n 17) rows → first_told rows ≡ 17 → ⊥
 not_told rows t e = true≢false (sym (eq-eqb _ _ e) ∙ never (λ n. eqb n 17) rows refl t)
 
 open_not : (head calendar : List ℕ) → (open_of head calendar).refusal ≡ 17 → ⊥

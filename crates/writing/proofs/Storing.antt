@@ -11,7 +11,7 @@ use Rattle.numbers.specs.Words.{bytes_of}
 use Rattle.numbers.specs.Placing.{at_front}
 use Rattle.numbers.proofs.Places.{at_front_length, front_then}
 use Rattle.fields.specs.Fields.{written}
-use Rattle.numbers.specs.Refusals.{first_of}
+use Rattle.numbers.specs.Refusals.{first_told}
 use Rattle.numbers.proofs.Refusals.{told, passed}
 use Rattle.heads.specs.Heads.{opening_tests, opening_refusal}
 use Rattle.writing.specs.Writing.{head_room, room_row, written_head, head_writing_refusal, head_writing_out}
@@ -31,7 +31,7 @@ module _ (h c out : List ℕ) where
   head_refused n = rw (head_told n) (refl, simp (ne_eqb _ _ n))
 
   module _ (e : opening_refusal h c ≡ 0) where
-    head_passed : head_writing_refusal h c (length out) ≡ first_of (room_row (length out) head_room)
+    head_passed : head_writing_refusal h c (length out) ≡ first_told (room_row (length out) head_room)
     unfolding head_writing_refusal opening_refusal
     head_passed = passed (opening_tests h c) (room_row (length out) head_room) tt e
 

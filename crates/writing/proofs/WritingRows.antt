@@ -6,7 +6,7 @@ use Prim.Native.Nat.{ℕ, ◌+◌, ◌≤◌, ◌<◌}
 use native.Mathlib.Omega.{arith}
 use borrow.Author.Tests.{eqb-true, not-false, lt-ltb, le-ltb, ne_eqb}
 use lib.ListN.{length}
-use Rattle.numbers.specs.Refusals.{first_of}
+use Rattle.numbers.specs.Refusals.{first_told}
 use Rattle.numbers.specs.PointNumbers.{is_number}
 use Rattle.numbers.specs.Placing.{at_front}
 use Rattle.numbers.proofs.Refusals.{untold, told, passed}
@@ -19,19 +19,19 @@ use Rattle.points.proofs.PointKinds.{kind_small, values_numbered}
 module _ (tag : ℕ) (value : List ℕ) where
   -- ---- the rows
 
-  pub form_told : (first_of (form_rows tag (length value)) ≡ 0 → ⊥) → value_writing_refusal tag value ≡ first_of (form_rows tag (length value))
+  pub form_told : (first_told (form_rows tag (length value)) ≡ 0 → ⊥) → value_writing_refusal tag value ≡ first_told (form_rows tag (length value))
   unfolding value_writing_refusal
   form_told n = told (form_rows tag (length value)) (number_row (number_of value) ++ value_rows tag value) n
 
-  module _ (e : first_of (form_rows tag (length value)) ≡ 0) where
-    form_passed : value_writing_refusal tag value ≡ first_of (number_row (number_of value) ++ value_rows tag value)
+  module _ (e : first_told (form_rows tag (length value)) ≡ 0) where
+    form_passed : value_writing_refusal tag value ≡ first_told (number_row (number_of value) ++ value_rows tag value)
     unfolding value_writing_refusal
     form_passed = passed (form_rows tag (length value)) (number_row (number_of value) ++ value_rows tag value) tt e
 
     pub number_told : is_number (number_of value) ≡ false → value_writing_refusal tag value ≡ 14
     number_told n = form_passed ∙ simp n
 
-    pub number_passed : is_number (number_of value) ≡ true → value_writing_refusal tag value ≡ first_of (value_rows tag value)
+    pub number_passed : is_number (number_of value) ≡ true → value_writing_refusal tag value ≡ first_told (value_rows tag value)
     number_passed n = form_passed ∙ simp n
 
   -- ---- the answer and the lent bytes, in each case
@@ -55,7 +55,7 @@ module _ (tag : ℕ) (value : List ℕ) where
           let size : length value ≡ size_of (kind_of tag) = eqb-true _ _ (not-false _ (untold (value_writing_tests tag value) (values_numbered tag value) e 12)) in
           omega (arith, kind_small (kind_of tag))
 
-      room_next : point_writing_refusal tag value (length out) ≡ first_of (room_row (length out) (3 + length value))
+      room_next : point_writing_refusal tag value (length out) ≡ first_told (room_row (length out) (3 + length value))
       unfolding point_writing_refusal value_writing_refusal
       room_next = passed (value_writing_tests tag value) (room_row (length out) (3 + length value)) (values_numbered tag value) e
 

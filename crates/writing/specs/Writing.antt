@@ -1,6 +1,6 @@
 -- Writing (document 01): what it answers, and what the lent bytes hold afterwards.
 use Rattle.std.specs.Prelude.{Bool, cond, List, [], ◌∷◌, ◌++◌, ℕ, ◌+◌, ltb, eqb, length}
-use Rattle.numbers.specs.Refusals.{first_of}
+use Rattle.numbers.specs.Refusals.{first_told}
 use Rattle.numbers.specs.Placing.{at_front}
 use Rattle.heads.specs.Heads.{head_tag, calendar_tag, opening_tests}
 use Rattle.points.specs.Points.{number_of, form_rows, number_row, value_rows, with_index}
@@ -24,7 +24,7 @@ abbrev pub head_writing_tests : List ℕ → List ℕ → ℕ → List (Bool × 
 head_writing_tests head calendar room = opening_tests head calendar ++ room_row room head_room
 
 unfoldable pub head_writing_refusal : List ℕ → List ℕ → ℕ → ℕ
-head_writing_refusal head calendar room = first_of (head_writing_tests head calendar room)
+head_writing_refusal head calendar room = first_told (head_writing_tests head calendar room)
 
 unfoldable pub head_writing_out : List ℕ → List ℕ → List ℕ → List ℕ
 head_writing_out head calendar out =
@@ -38,10 +38,10 @@ abbrev pub point_writing_tests : ℕ → List ℕ → ℕ → List (Bool × ℕ)
 point_writing_tests tag value room = value_writing_tests tag value ++ room_row room (header_length + length value)
 
 unfoldable pub value_writing_refusal : ℕ → List ℕ → ℕ
-value_writing_refusal tag value = first_of (value_writing_tests tag value)
+value_writing_refusal tag value = first_told (value_writing_tests tag value)
 
 unfoldable pub point_writing_refusal : ℕ → List ℕ → ℕ → ℕ
-point_writing_refusal tag value room = first_of (point_writing_tests tag value room)
+point_writing_refusal tag value room = first_told (point_writing_tests tag value room)
 
 -- the answer; CR 3: with the index of the reading
 abbrev pub point_writing_answer : ℕ → List ℕ → ℕ → Refusal

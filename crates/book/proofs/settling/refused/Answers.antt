@@ -1,0 +1,6 @@
+-- With the state of zeros.
+use borrow.Author.Rules.{rules}
+use Rattle.book.proofs.settling.refused.Goals as goal
+
+pub returns : goal.returns
+returns c = rw c.no_state-state.ensures

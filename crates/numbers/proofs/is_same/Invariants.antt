@@ -1,0 +1,17 @@
+-- The invariant: the bytes before place i are equal.
+use mathlib.Core.Path.{◌≡◌, sym, ap}
+use mathlib.Core.List.{List}
+use Prim.Native.Nat.{ℕ, ◌≤◌, ◌<◌, ◌-◌}
+use native.Mathlib.Omega.{arith}
+use lib.ListN.{length, get_or}
+use lib.Seq.{ext_get_or}
+use borrow.Author.Count.{below_more}
+use borrow.Author.Rules.{rules}
+use Rattle.numbers.proofs.Same.{is_same, not_same}
+use Rattle.numbers.proofs.is_same.Given as goal
+
+abbrev pub invariant-loop-i : goal.invariant-loop-i
+invariant-loop-i l = (l.i ≤ length l.a) × (length l.a ≡ length l.b) × ((k : ℕ) → k < l.i → get_or l.a k 0 ≡ get_or l.b k 0)
+
+abbrev pub decreases-loop-i : goal.decreases-loop-i
+decreases-loop-i l = length l.a - l.i

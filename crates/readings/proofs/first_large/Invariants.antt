@@ -1,0 +1,19 @@
+-- `first_large` meets its contract. The invariant: the first too large reading is the first from reading i on. Assumes nothing.
+use mathlib.Core.Path.{◌≡◌, sym, ◌∙◌}
+use mathlib.Core.Logic.{⊎_elim}
+use Prim.Native.Nat.{◌≤◌, ◌-◌, ◌+◌, ◌*◌}
+use native.Mathlib.Nat.{zero-add, sub-zero}
+use native.Mathlib.Omega.{arith}
+use lib.ListN.{length}
+use borrow.Author.Rules.{rules}
+use Rattle.readings.specs.Readings.{reading_length, first_large}
+use Rattle.readings.proofs.Large.{from, left_pass, left_none_in, left_found_in}
+use Rattle.readings.proofs.Packing.{small_of}
+use Rattle.readings.proofs.first_large.Given as goal
+
+abbrev pub invariant-loop-i : goal.invariant-loop-i
+invariant-loop-i l =
+    (l.i ≤ l.n) × (l.n * reading_length ≤ length l.readings) × (first_large l.readings l.n ≡ l.i + from l.readings l.i (l.n - l.i))
+
+abbrev pub decreases-loop-i : goal.decreases-loop-i
+decreases-loop-i l = l.n - l.i

@@ -1,0 +1,32 @@
+use mathlib.Core.Path.{◌≡◌, refl, sym, ap, ◌∙◌}
+use mathlib.Core.Bool.{true}
+use Prim.Native.Nat.{◌-◌}
+use native.Mathlib.Nat.{zero-add}
+use native.Mathlib.Omega.{arith}
+use lib.IntN.{pos}
+use lib.ListN.{replicate}
+use mir.Syntax.{w64}
+use borrow.Author.Rules.{rules}
+use Rattle.numbers.specs.Slots.{no_days}
+use Rattle.numbers.proofs.Filling.{Filled, filled_none, filled_more, filled_all}
+use Rattle.integers.proofs.Machine.{told}
+use Rattle.points.specs.Points.{share_of}
+use Rattle.results.proofs.SlotResults.{mixed_firing_at, mixed_firing_results}
+use Rattle.results.proofs.mixed_firing_found.Goals as goal
+
+pub loop-j-preserved : goal.loop-j-preserved
+loop-j-preserved c =
+    let at_inside = c.before.before in
+    let at_outside = at_inside.before in
+    let l = at_outside.loop-j in
+    let result = told w64 c.mixed_firing_result.type_inv c.mixed_firing_result.ensures in
+    (l.invariant.0, filled_more l.invariant.1 (pos 0) _ (omega arith) (result ∙ rw (at_outside.word32_at-outside.ensures, at_inside.word32_at-inside.ensures, l.invariant.0, zero-add)))
+
+pub returns : goal.returns
+returns c =
+    let v = c.args.value.now in
+    let found = filled_all c.loop-j.invariant.1 (omega arith) ∙ sym (mixed_firing_results v) in
+    ap (λ six. record { enough = true; found = six; days = no_days }) found
+
+pub loop-j-init : goal.loop-j-init
+loop-j-init c = (c.word16_at-share.ensures, filled_none refl)
