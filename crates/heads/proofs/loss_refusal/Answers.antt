@@ -28,13 +28,11 @@ returns-then-losses-gt-MOST_LOSS-2 c =
 pub returns-then-losses-gt-MOST_LOSS-3 : goal.returns-then-losses-gt-MOST_LOSS-3
 unfolding any
 returns-then-losses-gt-MOST_LOSS-3 c =
-    let at_third = c.before.before in
-    rw (three at_third.args.losses (search rules))
-    (simp (le-ltb _ _ at_third.if-losses-gt-MOST_LOSS.false, le-ltb _ _ at_third.if-losses-gt-MOST_LOSS-2.false, lt-ltb _ _ c.if-losses-gt-MOST_LOSS-3.true))
+    rw (three c.args.losses (search rules))
+    (simp (le-ltb _ _ c.if-losses-gt-MOST_LOSS.false, le-ltb _ _ c.if-losses-gt-MOST_LOSS-2.false, lt-ltb _ _ c.if-losses-gt-MOST_LOSS-3.true))
 
 pub returns : goal.returns
 unfolding any
 returns c =
-    let at_third = c.before.before in
-    rw (three at_third.args.losses (search rules))
-    (simp (le-ltb _ _ at_third.if-losses-gt-MOST_LOSS.false, le-ltb _ _ at_third.if-losses-gt-MOST_LOSS-2.false, le-ltb _ _ c.if-losses-gt-MOST_LOSS-3.false))
+    rw (three c.args.losses (search rules))
+    (simp (le-ltb _ _ c.if-losses-gt-MOST_LOSS.false, le-ltb _ _ c.if-losses-gt-MOST_LOSS-2.false, le-ltb _ _ c.if-losses-gt-MOST_LOSS-3.false))

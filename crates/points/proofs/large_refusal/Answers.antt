@@ -50,13 +50,13 @@ has_large_lem c test e =
 pub overflow_cast-result : goal.overflow_cast-result
 overflow_cast-result c =
     let at_readings = c.before.before.before.before.before in
-    let s = at_readings.before.before in
+    let s = c.before.before.before.before.before.before.before in
     record { fits = omega (arith, c.if-index-count.true, filled at_readings, kind_small (kind_of (tag s)), s.requires) }
 
 pub returns-then-index-count : goal.returns-then-index-count
 returns-then-index-count c =
     let at = c.before.before.before in
-    let s = at.before.before.before.before in
+    let s = c.before.before.before.before.before.before.before in
     let number = c.large_number-number.ensures in
     let told : c.large_number-number.result ≡ first_told (large_row (tag s) (value s))
     = number ∙ ap (large_number (kind_of (tag s))) (index_is at) ∙ simp (has_large_lem at true (lt-ltb _ _ c.if-index-count.true))

@@ -25,10 +25,10 @@ pub returns-in-3 : goal.returns-in-3
 returns-in-3 c = rw (of_tag c.args.tag consumer_tag (omega arith)) c.class_refusal.ensures
 
 pub returns-in-4 : goal.returns-in-4
-returns-in-4 c = let s = c.before.before.before.before.before in rw (of_tag s.args.tag generator_tag (omega arith), ← c.word32_at.ensures) c.baseline_refusal.ensures
+returns-in-4 c = rw (of_tag c.args.tag generator_tag (omega arith), ← c.word32_at.ensures) c.baseline_refusal.ensures
 
 pub returns-in-5 : goal.returns-in-5
-returns-in-5 c = let s = c.before.before.before.before.before in rw (of_tag s.args.tag mixed_firing_tag (omega arith), ← c.word16_at.ensures) c.share_refusal.ensures
+returns-in-5 c = rw (of_tag c.args.tag mixed_firing_tag (omega arith), ← c.word16_at.ensures) c.share_refusal.ensures
 
 pub returns-in_default : goal.returns-in_default
 returns-in_default c = rw (is_unknown_lem c.args.tag (search rules))
