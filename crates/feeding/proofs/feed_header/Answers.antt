@@ -13,9 +13,7 @@ returns-then-refusal-ne-ACCEPTED c = let e = c.header_refusal-refusal.ensures in
 
 pub bounds-bytes-0 : goal.bounds-bytes-0
 bounds-bytes-0 c =
-    let o = c.before.before.before.before.before in
-    let s = o.before.before in
-    omega (arith, header_shows s.args.kind s.args.bytes.now (sym o.header_refusal-refusal.ensures ∙ c.if-refusal-ne-ACCEPTED.false))
+    omega (arith, header_shows c.args.kind c.args.bytes.now (sym c.header_refusal-refusal.ensures ∙ c.if-refusal-ne-ACCEPTED.false))
 
 pub returns : goal.returns
 unfolding header_fed

@@ -29,8 +29,7 @@ module _ (d : tie.After-length_due-size) where
 
 pub returns-then-bytes-size : goal.returns-then-bytes-size
 returns-then-bytes-size c =
-    let d = c.before.before.before in
-    c.refused_at.ensures ∙ sym (value_cut _ _ _ _ (rw d.length_due-size.ensures.value at c.if-bytes-size.true))
+    c.refused_at.ensures ∙ sym (value_cut _ _ _ _ (rw c.length_due-size.ensures.value at c.if-bytes-size.true))
 
 pub got_head-requires : goal.got_head-requires
 got_head-requires c =

@@ -28,9 +28,8 @@ returns-then-unfit-ne-ACCEPTED c =
 
 pub returns : goal.returns
 returns c =
-    let at = c.before.before in
-    let a = at.args in
+    let a = c.args in
     let unfit = unfit_row a.tag a.value.now in
     let large = large_row a.tag a.value.now in
-    let next = passes unfit large at.unfit_refusal-unfit.ensures (unfit_numbered a.tag a.value.now) at.if-unfit-ne-ACCEPTED.false in
+    let next = passes unfit large c.unfit_refusal-unfit.ensures (unfit_numbered a.tag a.value.now) c.if-unfit-ne-ACCEPTED.false in
     c.large_refusal.ensures ∙ ap (λ n. with_index n a.tag a.value.now) (sym next)

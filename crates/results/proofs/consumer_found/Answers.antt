@@ -45,12 +45,11 @@ loss_of-loss-requires c = classed (start (chosen c.before.before.before.before.b
 
 pub consumer_results-found-requires : goal.consumer_results-found-requires
 consumer_results-found-requires c =
-    let at_slots = c.before.before.before.before.before in
-    let at_four = at_slots.before.before.before in
+    let at_four = c.before.before.before.before.before.before.before.before in
     let at_days = chosen at_four in
     let s = start at_days.before in (
       rw c.loss_of-loss.ensures (lossy s.pre),
-      baselines_small s.pre (counted at_days.before).day_count-test.ensures.counted at_days.chosen_days-chosen.ensures.chosen (four at_four) at_slots.baselines_on-slots.ensures,
+      baselines_small s.pre (counted at_days.before).day_count-test.ensures.counted at_days.chosen_days-chosen.ensures.chosen (four at_four) c.baselines_on-slots.ensures,
       rw (rest_of s.args.value.now consumer_readings_at) (tested s.pre),
     )
 
@@ -59,14 +58,11 @@ day_bytes-told-requires c = (chosen c.before.before.before.before.before.before.
 
 pub returns : goal.returns
 returns c =
-    let at_results = c.before.before in
-    let at_loss = at_results.before.before in
-    let at_slots = at_loss.before.before.before in
-    let at_four = at_slots.before.before.before in
+    let at_four = c.before.before.before.before.before.before.before.before.before.before in
     let at_days = chosen at_four in
     let s = start at_days.before in
-    let found = consumer_results s.pre (counted at_days.before).day_count-test.ensures.counted at_days.chosen_days-chosen.ensures.chosen (four at_four) at_slots.baselines_on-slots.ensures in
-    rw (at_results.consumer_results-found.ensures, at_loss.loss_of-loss.ensures, rest_of s.args.value.now consumer_readings_at, c.day_bytes-told.ensures) (sym found)
+    let found = consumer_results s.pre (counted at_days.before).day_count-test.ensures.counted at_days.chosen_days-chosen.ensures.chosen (four at_four) c.baselines_on-slots.ensures in
+    rw (c.consumer_results-found.ensures, c.loss_of-loss.ensures, rest_of s.args.value.now consumer_readings_at, c.day_bytes-told.ensures) (sym found)
 
 pub day_count-test-requires : goal.day_count-test-requires
 day_count-test-requires c = dated c.requires

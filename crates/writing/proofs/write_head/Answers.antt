@@ -57,12 +57,11 @@ put_field-requires-2 c =
 
 pub returns : goal.returns
 returns c =
-    let g = c.before.before.before in
-    let f = g.before.before.before.before in
+    let f = c.before.before.before.before.before.before.before in
     let a = (first f).args in
     let w = head_written a.head.now a.calendar.now a.out-1.now (opens (room_found f).before) (room_found f).if-out-lt-HEAD_ROOM.false in
     let both = both_parts (written head_tag a.head.now) (written calendar_tag a.calendar.now) a.out-1.now f.put_field.new.1.1.0
-    g.put_field-2.new.1.1.0 20 (field_length f) (room f) f.put_field.ensures g.put_field-2.ensures in
+    c.put_field-2.new.1.1.0 20 (field_length f) (room f) f.put_field.ensures c.put_field-2.ensures in
     (w.0, both ∙ w.1)
 
 pub returns-then-out-lt-HEAD_ROOM : goal.returns-then-out-lt-HEAD_ROOM

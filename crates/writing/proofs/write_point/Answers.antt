@@ -31,8 +31,7 @@ put_field-requires c =
 
 pub returns : goal.returns
 returns c =
-    let at_put = c.before.before.before in
-    let room = at_put.before.before in
+    let room = c.before.before.before.before.before in
     let a = (start room.before).args in
     let w = point_written a.tag a.value.now a.out-1.now (good room.before) room.if-out-value.false in
-    (w.0, at_put.put_field.ensures ∙ w.1)
+    (w.0, c.put_field.ensures ∙ w.1)

@@ -41,12 +41,11 @@ module _ (k : tie.In-Value goal.the-invariant-loop-due goal.the-decreases-loop-d
 
 pub returns-in_default : goal.returns-in_default
 returns-in_default c =
-    let turn = c.before.before.before.before.before.before.before in
-    let l = turn.loop-due in
+    let l = c.loop-due in
     let told = c.enum_told-1.given.1 in
     let e = cut_here Point _ l.at _ c.cut-field.ensures _ told in
     c.refused.ensures ∙ ap refused_with (c.refusal_of.ensures ∙ ap refusal_of told)
-    ∙ sym (l.invariant.1 ∙ not_cut l.due l.state-1 _ l.at turn.loop-due-test.true _ e)
+    ∙ sym (l.invariant.1 ∙ not_cut l.due l.state-1 _ l.at c.loop-due-test.true _ e)
 
 pub returns-then-added-ne-ACCEPTED : goal.returns-then-added-ne-ACCEPTED
 returns-then-added-ne-ACCEPTED c =

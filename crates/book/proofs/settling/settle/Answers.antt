@@ -32,17 +32,15 @@ returns-then-refusal-ne-ACCEPTED c =
 
 pub words_of-words-requires : goal.words_of-words-requires
 words_of-words-requires c =
-    let k = c.before.before.before in
-    let ending = k.read-ending.result in
-    let is = k.close-closed.ensures in
-    let contract : ending.state.head.contract < 2 ^ 32 = omega (arith, k.read-ending.type_inv) in
-    let total : mag k.close-closed.result.figures-1.total < 2 ^ 63 = search rules in
+    let ending = c.read-ending.result in
+    let is = c.close-closed.ensures in
+    let contract : ending.state.head.contract < 2 ^ 32 = omega (arith, c.read-ending.type_inv) in
+    let total : mag c.close-closed.result.figures-1.total < 2 ^ 63 = search rules in
     rw is (closed_small ending (sym (ap (λ y. y.refusal) is) ∙ c.if-refusal-ne-ACCEPTED.false) contract (rw is at total))
 
 pub returns : goal.returns
 returns c =
-    let at_words = c.before.before.before.before.before in
-    let k = at_words.before.before.before in
+    let k = c.before.before.before.before.before.before.before.before in
     let a = closed_is k in
-    let w = all_settled (book k) _ k.if-res-ne-RESULT_LENGTH.false (sym (ap (λ y. y.refusal) a) ∙ at_words.if-refusal-ne-ACCEPTED.false) in
-    (w.0, c.put_words.ensures ∙ ap word_bytes (at_words.words_of-words.ensures ∙ ap (λ y. words_of y.figures-1) a) ∙ w.1)
+    let w = all_settled (book k) _ k.if-res-ne-RESULT_LENGTH.false (sym (ap (λ y. y.refusal) a) ∙ c.if-refusal-ne-ACCEPTED.false) in
+    (w.0, c.put_words.ensures ∙ ap word_bytes (c.words_of-words.ensures ∙ ap (λ y. words_of y.figures-1) a) ∙ w.1)

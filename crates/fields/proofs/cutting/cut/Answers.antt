@@ -14,8 +14,7 @@ returns-then-refusal-ne-ACCEPTED c =
 
 pub bounds-left-0 : goal.bounds-left-0
 bounds-left-0 c =
-    let s = c.before.before.before.before.before in
-    omega (arith, header_shows s.args.due s.args.left.now (sym c.header_refusal-refusal.ensures ∙ c.if-refusal-ne-ACCEPTED.false))
+    omega (arith, header_shows c.args.due c.args.left.now (sym c.header_refusal-refusal.ensures ∙ c.if-refusal-ne-ACCEPTED.false))
 
 pub returns-then-left-size : goal.returns-then-left-size
 returns-then-left-size c =

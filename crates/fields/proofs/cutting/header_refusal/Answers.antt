@@ -50,14 +50,13 @@ returns-then-wrong-ne-ACCEPTED c =
 
 pub returns : goal.returns
 returns c =
-    let at_length = c.before.before.before in
-    let at_tag = at_length.before.before.before in
+    let at_tag = c.before.before.before.before.before.before in
     let a = (start at_tag).args in
     let left = a.left.now in
     c.length_refusal.ensures
     ∙ ap (λ (size : ℕ). first_told (due_length_row a.due (tag_at left) size)) c.word16_at.ensures
     ∙ sym (tag_next at_tag ∙ passes (due_tag_row a.due (tag_at left)) (due_length_row a.due (tag_at left) (word16 left length_at))
-    at_length.tag_refusal-wrong.ensures (numbered_tag a.due (tag_at left)) at_length.if-wrong-ne-ACCEPTED.false)
+    c.tag_refusal-wrong.ensures (numbered_tag a.due (tag_at left)) c.if-wrong-ne-ACCEPTED.false)
 
 pub bounds-left-0 : goal.bounds-left-0
 bounds-left-0 c = omega (arith, long c.before.before)
