@@ -15,7 +15,7 @@ use Rattle.figure_lines.proofs.Slots.{slots_none, slot_placed}
 use Rattle.figure_lines.proofs.put_slots.Goals as goal
 
 pub loop-i-init : goal.loop-i-init
-loop-i-init c = let s = c.before.before in (search rules, search rules, refl, search rules, named (sym (slots_none 1 s.args.t1)) (nothing s.args.at s.args.out-1.now (omega arith)))
+loop-i-init c = let s = c.before.before in (search rules, search rules, refl, search rules, named (sym (slots_none 1 s.args.t1)) (nothing s.args.at s.args.out.now (omega arith)))
 
 pub loop-i-preserved : goal.loop-i-preserved
 loop-i-preserved c =
