@@ -51,7 +51,8 @@ returns-then-not-enough c =
     let a = c.args in
     let f = facts a.state a.tag a.value.now (length a.places.now) c.early_refusal-early.ensures c.if-refusal-ne-ACCEPTED.false in
     let few = days_lack a.state.head a.state.marks (kind_of a.tag) a.value.now c.results_of-answer.ensures (ap not c.if-not-enough.true) in
-    let w = refused a.state a.tag a.value.now a.places.now (f.days ∙ simp few) (λ z. omega arith) refl in
+    let told : adding_refusal a.state a.tag a.value.now (length a.places.now) ≡ 18 = f.days ∙ simp few in
+    let w = refused a.state a.tag a.value.now a.places.now told (λ z. absurd (omega arith)) refl in
     record { answer = w.0; lent = w.1 }
 
 pub put-requires : goal.put-requires
