@@ -50,6 +50,10 @@ DIFFER = re.compile(
     r"differ (?:only )?where one has `([^`|]+)` \(expected\)(?:, right after `[^`]*`,?)? and the other has `([^`|]+)` \(found\)"
     r"|the two types are `([^`|]+)` \(expected\) and `([^`|]+)` \(found\)"
     r"|expected type `([^`|]+)`, but this has type `([^`|]+)`")
+# Where what is found is cut off.
+EXPECTED = re.compile(r"differ (?:only )?where one has `([^`|]+)`")
+# The module of a name, in this repository's libraries or the toolchain's.
+MODULE = re.compile(r"(?<![\w.])(?:Rattle|Prim|mathlib|native|lib|mir|borrow|denote|seplogic)\.(?:[\w'-]+\.)*")
 NO_FACT = "no fact: "
 UNKNOWN = "?"
 
@@ -90,9 +94,10 @@ def function_at(edit, name, line, column):
 
 def difference(message):
     """The last place where what is expected and what is found are said to differ, if it is short; names without their module."""
-    pairs = [[re.sub(r"[^\s(]+\.(?=[^\s.])", "", side) for side in found if side] for found in DIFFER.findall(message)]
-    pairs = [pair for pair in pairs if max(map(len, pair)) <= 40]
-    return "`{}` expected, `{}` found".format(*pairs[-1]) if pairs else None
+    found = [[side for side in sides if side] for sides in DIFFER.findall(message)] or [[side] for side in EXPECTED.findall(message)]
+    short = [[MODULE.sub("", side) for side in sides] for sides in found]
+    short = [sides for sides in short if max(map(len, sides)) <= 40]
+    return "`{}` expected, {} found".format(short[-1][0], f"`{short[-1][1]}`" if short[-1][1:] else "another") if short else None
 
 
 def shortened(file, message):
@@ -184,7 +189,7 @@ def differences(due, before, rows, said):
             if error is None:
                 yield f"nothing was told of {edit}"
             elif NO_FACT in error:
-                yield f"{edit} is not refused by a fact: {error}"
+                yield f"{edit} is not refused by a fact: {error.replace(NO_FACT, '')}"
             elif rows[edit][1] not in (error, UNKNOWN):
                 yield f"docs/CLAIMS.md, first error: rt told {row(edit, claim, error)}"
 
