@@ -58,6 +58,7 @@ abbrev pub without : ℕ → List ℕ → List ℕ
 without d = filter (λ other. not (eqb other d))
 
 in_rising : {near far d : ℕ} {days : List ℕ} → Rising near far days → In d days → near < d
+in_rising {d = d} (none {near = near} {far = far} _) p = elim p [ ]
 in_rising (next l r) here = l
 in_rising (next l r) (there p) = omega (arith, in_rising r p)
 
@@ -68,5 +69,6 @@ absent d h (next {k = k} l r) = rw (ne_eqb k d (λ q. omega arith)) (ap (λ xs. 
 
 pub without_length : {near far d : ℕ} {days : List ℕ} → Rising near far days → In d days → suc (length (without d days)) ≡ length days
 unfolding filter
+without_length {d = d} (none {near = near} {far = far} _) p = elim p [ ]
 without_length {d = d} (next l r) here = rw (eq-eqb d d refl) (ap (λ xs. suc (length xs)) (absent d (omega arith) r))
 without_length {d = d} (next {k = k} l r) (there p) = rw (ne_eqb k d (λ q. omega (arith, in_rising r p))) (ap suc (without_length r p))

@@ -61,6 +61,7 @@ in_place (k ∷ days) zero h = here
 in_place (k ∷ days) (suc i) h = there (in_place days i (omega arith))
 
 pub in_some : {d : ℕ} {days all : List ℕ} → SomeOf days all → In d days → In d all
+in_some {d = d} (stop {all = all}) q = elim q [ ]
 in_some (keep p) here = here
 in_some (keep p) (there q) = there (in_some p q)
 in_some (skip p) q = there (in_some p q)

@@ -1,13 +1,9 @@
 -- `baselines_of` meets its contract. The invariant: the first j places hold their baselines. Assumes nothing.
-use mathlib.Core.Path.{refl, ◌∙◌}
 use mathlib.Core.List.{List}
 use Prim.Native.Nat.{ℕ, ◌+◌, ◌*◌, ◌-◌}
-use native.Mathlib.Nat.{zero-add}
-use native.Mathlib.Omega.{arith}
 use lib.ListN.{get_or, replicate}
-use borrow.Author.Rules.{rules}
 use Rattle.numbers.specs.Slots.{window_slots}
-use Rattle.numbers.proofs.Filling.{Filled, filled_none, filled_more, filled_all}
+use Rattle.numbers.proofs.Filling.{Filled}
 use Rattle.baseline.proofs.baselines_of.Given as goal
 
 -- slot j, of sums that are worked out

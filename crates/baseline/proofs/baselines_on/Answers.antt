@@ -1,5 +1,5 @@
 -- `baselines_on` meets its contract. Assumes nothing.
-use mathlib.Core.Path.{◌≡◌, ◌∙◌}
+use mathlib.Core.Path.{◌≡◌}
 use native.Mathlib.Omega.{arith}
 use lib.ListN.{length}
 use borrow.Author.Rules.{rules}
@@ -10,13 +10,9 @@ use Rattle.baseline.proofs.baselines_on.Goals as goal
 
 pub baselines_of-requires : goal.baselines_of-requires
 baselines_of-requires c =
-    let s = c.before.before.before.before in
-    let days = s.args.days in
-    let tested = s.requires.0 in
+    let days = c.args.days in
+    let tested = c.requires.0 in
     let four : length days ≡ days_used = search rules in (
-      rw c.day_sums-sums.ensures (day_sums_bound _ tested.small days (omega arith) s.requires.1 _ (omega (arith, tested.window))),
+      rw c.day_sums-sums.ensures (day_sums_bound _ tested.small days (omega arith) c.requires.1 _ (omega (arith, tested.window))),
       rw c.earlier_use-earlier.ensures (earlier_use_bound _ tested.small _ (omega (arith, tested.window))),
     )
-
-pub returns : goal.returns
-returns c = c.baselines_of.ensures ∙ rw (c.day_sums-sums.ensures, c.earlier_use-earlier.ensures)

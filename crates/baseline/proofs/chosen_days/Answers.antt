@@ -13,17 +13,14 @@ use Rattle.baseline.proofs.chosen_days.Goals as goal
 
 pub choose-requires : goal.choose-requires
 choose-requires c =
-    let at_sums = c.before.before in
-    let tested = at_sums.requires.tested in
-    record { thirty = search rules; small = rw at_sums.window_sums-sums.ensures (window_sums_bound _ tested.small _ (omega (arith, tested.window))) }
+    let tested = c.requires.tested in
+    record { thirty = search rules; small = rw c.window_sums-sums.ensures (window_sums_bound _ tested.small _ (omega (arith, tested.window))) }
 
 pub returns : goal.returns
 returns c =
-    let at_sums = c.before.before.before in
-    let at_eligible = at_sums.before in
-    let a = at_eligible.args in
+    let a = c.args in
     let flags = flags_filter (is_eligible a.test a.marks) 1 days_back in
     let found : c.choose.result ≡ choice (chosen_days a.test a.marks a.readings.now a.slot)
-    = c.choose.ensures ∙ rw (at_sums.window_sums-sums.ensures, at_eligible.eligible_days-eligible.ensures, flags)
+    = c.choose.ensures ∙ rw (c.window_sums-sums.ensures, c.eligible_days-eligible.ensures, flags)
     in
-    (found, λ i. rw found (choice_back _ (chosen_days_back a.test a.marks a.readings.now a.slot) i))
+    record { chosen = found; back = λ i. rw found (choice_back _ (chosen_days_back a.test a.marks a.readings.now a.slot) i) }

@@ -1,5 +1,4 @@
 -- `day_sums` meets its contract. Assumes nothing.
-use borrow.Author.Rules.{rules}
 use Rattle.baseline.specs.Baseline.{day_sums}
 use Rattle.baseline.proofs.day_sums.Goals as goal
 

@@ -1,15 +1,10 @@
 -- `lowest_of` meets its contract. The invariant: the lowest of all is the lowest of `low` and of the days from place i on. Assumes nothing.
-use mathlib.Core.Path.{◌≡◌, refl, sym, ◌∙◌}
-use mathlib.Core.Logic.{⊎_elim}
+use mathlib.Core.Path.{◌≡◌}
 use Prim.Native.Nat.{◌≤◌, ◌<◌, ◌-◌}
-use native.Mathlib.Omega.{arith}
 use lib.ListN.{get_or, drop}
-use borrow.Author.Rules.{rules}
 use Rattle.numbers.specs.Slots.{days_back}
 use Rattle.calendar.specs.Eligible.{of_day}
 use Rattle.choosing.specs.Choosing.{round_days, lowest}
-use Rattle.choosing.proofs.Rising.{rising_at}
-use Rattle.choosing.proofs.Lowest.{lower, not_lower, lowest_end}
 use Rattle.choosing.proofs.lowest_of.Given as goal
 
 abbrev pub invariant-loop-i : goal.invariant-loop-i

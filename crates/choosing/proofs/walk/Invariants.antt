@@ -1,14 +1,9 @@
 -- `walk` meets its contract. Both loops keep what `Here` says of the days in hand; each round but the last goes to a farther place.
 -- Assumes nothing.
-use mathlib.Core.Path.{refl, sym}
-use mathlib.Core.Logic.{⊎_elim}
 use Prim.Native.Nat.{◌≤◌, ◌<◌, ◌-◌, ◌+◌}
-use native.Mathlib.Omega.{arith}
-use borrow.Author.Rules.{rules}
 use Rattle.numbers.specs.Slots.{days_back}
 use Rattle.choosing.specs.Choosing.{round_days}
-use Rattle.choosing.proofs.Rising.{rising_farther}
-use Rattle.choosing.proofs.Walking.{Here, begin, bounded, taken, passed, ran_out, five_rising, five_held, stopped, went_on}
+use Rattle.choosing.proofs.Walking.{Here}
 use Rattle.choosing.proofs.walk.Given as goal
 
 abbrev pub invariant-loop-count : goal.invariant-loop-count

@@ -19,4 +19,4 @@ pub returns-in-Value : goal.returns-in-Value
 returns-in-Value c = c.feed_value.ensures ∙ as_fed c.before.before.before.before.before.before _ c.wait-in-Value-1.given.1
 
 pub returns-in-End : goal.returns-in-End
-returns-in-End c = c.feed_end.ensures ∙ as_fed c.before.before.before.before.before _ c.enum_told-1.given.1
+returns-in-End c = c.feed_end.ensures ∙ as_fed c.before.before.before.before.before _ c.in-End.is

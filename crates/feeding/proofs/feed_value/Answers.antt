@@ -42,14 +42,14 @@ got_head-requires c =
 pub returns-in-Head : goal.returns-in-Head
 returns-in-Head c =
     let r = c.before.before.before.before.before in
-    c.got_head.ensures ∙ as_fed r.before _ c.enum_told-1.given.1 r.if-bytes-size.false
+    c.got_head.ensures ∙ as_fed r.before _ c.in-Head.is r.if-bytes-size.false
 
 pub returns-in-Calendar : goal.returns-in-Calendar
 returns-in-Calendar c =
     let r = c.before.before.before.before.before in
-    c.got_calendar.ensures ∙ as_fed r.before _ c.enum_told-in-Calendar-1.given.1 r.if-bytes-size.false
+    c.got_calendar.ensures ∙ as_fed r.before _ c.in-Calendar.is r.if-bytes-size.false
 
 pub returns-in-Point : goal.returns-in-Point
 returns-in-Point c =
     let r = c.before.before.before.before.before in
-    c.got_point.ensures ∙ as_fed r.before _ c.enum_told-in-Point-1.given.1 r.if-bytes-size.false
+    c.got_point.ensures ∙ as_fed r.before _ c.in-Point.is r.if-bytes-size.false

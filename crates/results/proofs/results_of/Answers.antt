@@ -22,9 +22,11 @@ pub returns-in-3 : goal.returns-in-3
 returns-in-3 c = rw (of_tag c.args.tag consumer_tag (omega arith)) c.consumer_found.ensures
 
 pub returns-in-4 : goal.returns-in-4
+unfolding found_of quotients
 returns-in-4 c = rw (of_tag c.args.tag generator_tag (omega arith)) c.generator_found.ensures
 
 pub returns-in-5 : goal.returns-in-5
+unfolding found_of quotients
 returns-in-5 c = rw (of_tag c.args.tag mixed_firing_tag (omega arith)) c.mixed_firing_found.ensures
 
 pub returns-in_default : goal.returns-in_default
