@@ -1,9 +1,9 @@
 /* Tembuyas, the effectiveness test ledger, for C and C++: writes test books and settles them.
  *
- * Building and linking. `rt staticlib tembuyas` proves the library and makes target/staticlib/libtembuyas.a, for x86-64
+ * Building and linking. `rt lib` in crates/tembuyas proves the library and makes out/libtembuyas.a there, for x86-64
  * Linux. It calls no other library and needs no flags:
  *
- *     cc -Iinclude program.c target/staticlib/libtembuyas.a
+ *     cc -Iinclude program.c crates/tembuyas/out/libtembuyas.a
  *
  * Answers. Every function answers 0 (accepted) or the number of the one refusal due to its input: where several are
  * due, the first in the order that stands at the function. tembuyas_write_point gives beside it the index of a reading

@@ -18,23 +18,21 @@ three (a ∷ b ∷ c ∷ d ∷ xs) h = absurd (omega arith)
 
 pub returns-then-losses-gt-MOST_LOSS : goal.returns-then-losses-gt-MOST_LOSS
 unfolding any
-returns-then-losses-gt-MOST_LOSS c = rw (three c.args.t1 (search rules)) (simp (lt-ltb _ _ c.if-losses-gt-MOST_LOSS.true))
+returns-then-losses-gt-MOST_LOSS c = rw (three c.args.losses (search rules)) (simp (lt-ltb _ _ c.if-losses-gt-MOST_LOSS.true))
 
 pub returns-then-losses-gt-MOST_LOSS-2 : goal.returns-then-losses-gt-MOST_LOSS-2
 unfolding any
 returns-then-losses-gt-MOST_LOSS-2 c =
-    rw (three c.args.t1 (search rules)) (simp (le-ltb _ _ c.if-losses-gt-MOST_LOSS.false, lt-ltb _ _ c.if-losses-gt-MOST_LOSS-2.true))
+    rw (three c.args.losses (search rules)) (simp (le-ltb _ _ c.if-losses-gt-MOST_LOSS.false, lt-ltb _ _ c.if-losses-gt-MOST_LOSS-2.true))
 
 pub returns-then-losses-gt-MOST_LOSS-3 : goal.returns-then-losses-gt-MOST_LOSS-3
 unfolding any
 returns-then-losses-gt-MOST_LOSS-3 c =
-    let at_third = c.before.before in
-    rw (three at_third.args.t1 (search rules))
-    (simp (le-ltb _ _ at_third.if-losses-gt-MOST_LOSS.false, le-ltb _ _ at_third.if-losses-gt-MOST_LOSS-2.false, lt-ltb _ _ c.if-losses-gt-MOST_LOSS-3.true))
+    rw (three c.args.losses (search rules))
+    (simp (le-ltb _ _ c.if-losses-gt-MOST_LOSS.false, le-ltb _ _ c.if-losses-gt-MOST_LOSS-2.false, lt-ltb _ _ c.if-losses-gt-MOST_LOSS-3.true))
 
 pub returns : goal.returns
 unfolding any
 returns c =
-    let at_third = c.before.before in
-    rw (three at_third.args.t1 (search rules))
-    (simp (le-ltb _ _ at_third.if-losses-gt-MOST_LOSS.false, le-ltb _ _ at_third.if-losses-gt-MOST_LOSS-2.false, le-ltb _ _ c.if-losses-gt-MOST_LOSS-3.false))
+    rw (three c.args.losses (search rules))
+    (simp (le-ltb _ _ c.if-losses-gt-MOST_LOSS.false, le-ltb _ _ c.if-losses-gt-MOST_LOSS-2.false, le-ltb _ _ c.if-losses-gt-MOST_LOSS-3.false))

@@ -1,6 +1,5 @@
 -- The lengths, then the values.
 use mathlib.Core.Path.{◌∙◌}
-use borrow.Author.Rules.{rules}
 use borrow.Author.Tests.{eq-eqb, ne_eqb}
 use Rattle.heads.specs.Heads.{content_refusal, opening_refusal}
 use Rattle.heads.proofs.opening_refusal.Goals as goal
@@ -16,7 +15,5 @@ returns-then-calendar-ne-CALENDAR_LENGTH c = simp (eq-eqb _ _ c.if-head-ne-HEAD_
 pub returns : goal.returns
 unfolding opening_refusal content_refusal
 returns c =
-    let at_marks = c.before.before.before in
-    let at_lengths = at_marks.before in
-    simp (eq-eqb _ _ at_lengths.if-head-ne-HEAD_LENGTH.false, eq-eqb _ _ at_lengths.if-calendar-ne-CALENDAR_LENGTH.false)
-    (c.content_refusal.ensures ∙ rw (c.head_of.ensures, at_marks.marks_of-marks.ensures))
+    simp (eq-eqb _ _ c.if-head-ne-HEAD_LENGTH.false, eq-eqb _ _ c.if-calendar-ne-CALENDAR_LENGTH.false)
+    (c.content_refusal.ensures ∙ rw (c.head_of.ensures, c.marks_of-marks.ensures))

@@ -1,85 +1,97 @@
 -- An early refusal, too few days, and the point taken.
 use mathlib.Core.Path.{◌≡◌, refl, ap, sym, ◌∙◌}
-use mathlib.Core.Bool.{false}
+use mathlib.Core.Bool.{true, false, not}
+use mathlib.Core.List.{List}
+use Prim.Native.Nat.{ℕ}
 use native.Mathlib.Omega.{arith}
 use lib.ListN.{length}
-use borrow.Author.Rules.{rules}
-use Rattle.points.specs.Points.{kind_of}
+use Rattle.points.specs.Points.{kind_of, with_index}
+use Rattle.points.specs.declared.Refusal.{Refusal}
 use Rattle.results.specs.SlotResults.{lacks_days}
+use Rattle.results.specs.Steps.{found_of}
 use Rattle.results.specs.declared.Found.{Found}
 use Rattle.ledger.specs.States.{taken}
-use Rattle.ledger.specs.Operations.{adding_refusal, results_of, days_told_of}
+use Rattle.ledger.specs.Operations.{early_refusal, adding_refusal, results_of, days_told_of}
+use Rattle.ledger.specs.declared.State.{State}
 use Rattle.ledger.proofs.AddSteps.{days_lack, days_suffice, found_is, Early, early, took, places_good, refused, early_refused}
 use Rattle.ledger.proofs.add.Goals as goal
-use Rattle.ledger.proofs.add.Tie as tie
 
 -- behind the early refusals
-module _ (c : tie.Else-refusal-ne-ACCEPTED) where
-  abbrev start : tie.Start
-  start = c.before.before.before
+module _ (state : State) (tag : ℕ) (value : List ℕ) (places : ℕ)
+    {r : Refusal} (told : r ≡ with_index (early_refusal state tag value places) tag value) (none : r.number ≡ 0) where
+  facts : Early state tag value places
+  facts = early state tag value places (sym (ap (λ r. r.number) told) ∙ none)
 
-  facts : let a = start.args in Early a.state a.tag a.value.now (length a.places-1.now)
-  facts = early _ _ _ _ (sym (ap (λ r. r.number) c.early_refusal-early.ensures) ∙ c.if-refusal-ne-ACCEPTED.false)
+  -- behind the choice of days
+  module _ {answer : Found} (is : answer ≡ found_of state.head state.marks (kind_of tag) value) (suffice : not answer.enough ≡ false) where
+    enough : lacks_days state.head state.marks (kind_of tag) value ≡ false
+    enough = days_suffice state.head state.marks (kind_of tag) value is suffice
 
--- behind the choice of days
-module _ (c : tie.Else-not-enough) where
-  abbrev passed : tie.Else-refusal-ne-ACCEPTED
-  passed = c.before.before.before.before
+    found : (answer.found ≡ results_of state tag value) × (answer.days ≡ days_told_of state tag value)
+    found = found_is state.head state.marks (kind_of tag) value is enough
 
-  enough : let a = (start passed).args in lacks_days a.state.head-1 a.state.marks-1 (kind_of a.tag) a.value.now ≡ false
-  enough = days_suffice _ _ _ _ c.results_of-answer.ensures c.if-not-enough.false-raw
-
-  abbrev answer : Found
-  answer = c.results_of-answer.result
-
-  found : let a = (start passed).args in
-      (answer.found-1 ≡ results_of a.state a.tag a.value.now) × (answer.days-1 ≡ days_told_of a.state a.tag a.value.now)
-  found = found_is _ _ (kind_of (start passed).args.tag) _ c.results_of-answer.ensures enough
-
-  accepted : let a = (start passed).args in adding_refusal a.state a.tag a.value.now (length a.places-1.now) ≡ 0
-  accepted = (facts passed).days-1 ∙ simp enough
-
--- with the answer's parts in hand
-abbrev enough_at : tie.After-put-arg-1 → tie.Else-not-enough
-enough_at c = c.before.before.before
-
-abbrev totals_at_lem : tie.After-add_totals-sums → tie.After-put
-totals_at_lem c = c.before.before.before
+    accepted : adding_refusal state tag value places ≡ 0
+    accepted = facts.days ∙ simp enough
 
 pub returns-then-refusal-ne-ACCEPTED : goal.returns-then-refusal-ne-ACCEPTED
-returns-then-refusal-ne-ACCEPTED c = early_refused _ _ _ _ c.early_refusal-early.ensures c.if-refusal-ne-ACCEPTED.true
+returns-then-refusal-ne-ACCEPTED c =
+    let a = c.args in
+    let w = early_refused a.state a.tag a.value.now a.places.now c.early_refusal-early.ensures c.if-refusal-ne-ACCEPTED.true in
+    record { answer = w.0; lent = w.1 }
 
 pub results_of-answer-requires : goal.results_of-answer-requires
 results_of-answer-requires c =
-    let f = facts c.before.before.before in
+    let a = c.args in
+    let f = facts a.state a.tag a.value.now (length a.places.now) c.early_refusal-early.ensures c.if-refusal-ne-ACCEPTED.false in
     let g = f.given in
     record { content = f.sound.content; known = g.known; size = g.size; fit = g.fit; small = g.small }
 
 pub returns-then-not-enough : goal.returns-then-not-enough
 returns-then-not-enough c =
-    let few = days_lack _ _ (kind_of (start c.before.before.before.before.before).args.tag) _ c.results_of-answer.ensures c.if-not-enough.true-raw in
-    refused _ _ _ _ ((facts c.before.before.before.before.before).days-1 ∙ simp few) (λ z. omega arith) refl
+    let a = c.args in
+    let f = facts a.state a.tag a.value.now (length a.places.now) c.early_refusal-early.ensures c.if-refusal-ne-ACCEPTED.false in
+    let few = days_lack a.state.head a.state.marks (kind_of a.tag) a.value.now c.results_of-answer.ensures (ap not c.if-not-enough.true) in
+    let told : adding_refusal a.state a.tag a.value.now (length a.places.now) ≡ 18 = f.days ∙ simp few in
+    let w = refused a.state a.tag a.value.now a.places.now told (λ z. absurd (omega arith)) refl in
+    record { answer = w.0; lent = w.1 }
+
+pub put-requires : goal.put-requires
+put-requires c =
+    let a = c.args in
+    (facts a.state a.tag a.value.now (length a.places.now) c.early_refusal-early.ensures c.if-refusal-ne-ACCEPTED.false).given.six
 
 pub add_totals-sums-requires : goal.add_totals-sums-requires
 add_totals-sums-requires c =
-    let at = enough_at c.before.before.before.before in
-    λ i. rw (c.slot_totals-before.ensures, (found at).0) ((facts (passed at)).sums i)
+    let a = c.args in
+    let n = length a.places.now in
+    let f = facts a.state a.tag a.value.now n c.early_refusal-early.ensures c.if-refusal-ne-ACCEPTED.false in
+    let found = found a.state a.tag a.value.now n c.early_refusal-early.ensures c.if-refusal-ne-ACCEPTED.false
+        c.results_of-answer.ensures (ap not c.if-not-enough.false)
+    in
+    λ i. rw (c.slot_totals-before.ensures, found.0) (f.sums i)
+
+pub number_of-number-requires : goal.number_of-number-requires
+number_of-number-requires c =
+    let a = c.args in
+    (facts a.state a.tag a.value.now (length a.places.now) c.early_refusal-early.ensures c.if-refusal-ne-ACCEPTED.false).numbered
 
 pub overflow_add-next : goal.overflow_add-next
-overflow_add-next c = record { fits = (facts (passed (enough_at (totals_at_lem c.before.before.before).before))).next }
+overflow_add-next c =
+    let a = c.args in
+    record { fits = (facts a.state a.tag a.value.now (length a.places.now) c.early_refusal-early.ensures c.if-refusal-ne-ACCEPTED.false).next }
 
 pub returns : goal.returns
 unfolding taken
 returns c =
-    let at_totals = c.before.before.before in
-    let at_put = totals_at_lem at_totals in
-    let at = enough_at at_put.before in (
-      rw (at_totals.add_totals-sums.ensures, at_totals.slot_totals-before.ensures, c.number_of-number.ensures, (found at).0) (took _ _ _ _ (accepted at) (found at).1),
-      at_put.put.ensures ∙ (found at).0 ∙ sym (places_good _ _ _ _ (accepted at)),
-    )
-
-pub put-requires : goal.put-requires
-put-requires c = (facts (passed (enough_at c.before))).given.six
-
-pub number_of-number-requires : goal.number_of-number-requires
-number_of-number-requires c = (facts (passed (enough_at (totals_at_lem c.before).before))).numbered
+    let a = c.args in
+    let n = length a.places.now in
+    let found = found a.state a.tag a.value.now n c.early_refusal-early.ensures c.if-refusal-ne-ACCEPTED.false
+        c.results_of-answer.ensures (ap not c.if-not-enough.false)
+    in
+    let accepted = accepted a.state a.tag a.value.now n c.early_refusal-early.ensures c.if-refusal-ne-ACCEPTED.false
+        c.results_of-answer.ensures (ap not c.if-not-enough.false)
+    in
+    record {
+      answer = rw (c.add_totals-sums.ensures, c.slot_totals-before.ensures, c.number_of-number.ensures, found.0) (took a.state a.tag a.value.now n accepted found.1);
+      lent = c.put.ensures ∙ found.0 ∙ sym (places_good a.state a.tag a.value.now a.places.now accepted);
+    }

@@ -1,17 +1,14 @@
 -- The tag, then the length.
 use mathlib.Core.Path.{◌≡◌, sym, ◌∙◌}
-use borrow.Author.Rules.{rules}
+use Prim.Native.Nat.{ℕ}
 use borrow.Author.Tests.{eq-eqb, ne_eqb}
 use Rattle.numbers.specs.Refusals.{first_told}
 use Rattle.numbers.proofs.Refusals.{tells, passes}
 use Rattle.points.specs.Points.{tag_row, length_row, form_rows}
 use Rattle.points.proofs.form_refusal.Goals as goal
-use Rattle.points.proofs.form_refusal.Tie as tie
 
-length_next : (c : tie.Else-unknown-ne-ACCEPTED) → let a = c.args in first_told (form_rows a.tag a.length) ≡ first_told (length_row a.tag a.length)
-length_next c =
-    let a = c.args in
-    passes (tag_row a.tag) (length_row a.tag a.length) c.tag_refusal-unknown.ensures tt c.if-unknown-ne-ACCEPTED.false
+length_next : {n : ℕ} (tag length : ℕ) → n ≡ first_told (tag_row tag) → n ≡ 0 → first_told (form_rows tag length) ≡ first_told (length_row tag length)
+length_next tag length e z = passes (tag_row tag) (length_row tag length) e tt z
 
 pub returns-then-unknown-ne-ACCEPTED : goal.returns-then-unknown-ne-ACCEPTED
 returns-then-unknown-ne-ACCEPTED c =
@@ -19,7 +16,7 @@ returns-then-unknown-ne-ACCEPTED c =
     tells (tag_row a.tag) (length_row a.tag a.length) c.tag_refusal-unknown.ensures c.if-unknown-ne-ACCEPTED.true
 
 pub returns-then-length-value_length : goal.returns-then-length-value_length
-returns-then-length-value_length c = sym (length_next c.before.before.before ∙ simp (ne_eqb _ _ (rw c.value_length.ensures at c.if-length-value_length.true)))
+returns-then-length-value_length c = sym (length_next c.args.tag c.args.length c.tag_refusal-unknown.ensures c.if-unknown-ne-ACCEPTED.false ∙ simp (ne_eqb _ _ (rw c.value_length.ensures at c.if-length-value_length.true)))
 
 pub returns : goal.returns
-returns c = sym (length_next c.before.before.before ∙ simp (eq-eqb _ _ (rw c.value_length.ensures at c.if-length-value_length.false)))
+returns c = sym (length_next c.args.tag c.args.length c.tag_refusal-unknown.ensures c.if-unknown-ne-ACCEPTED.false ∙ simp (eq-eqb _ _ (rw c.value_length.ensures at c.if-length-value_length.false)))

@@ -1,14 +1,12 @@
 -- The class, the baseline or the share, then the readings.
-use mathlib.Core.Path.{◌≡◌, refl, ap, sym, ◌∙◌}
+use mathlib.Core.Path.{ap, sym, ◌∙◌}
 use mathlib.Core.List.{List}
 use Prim.Native.Nat.{ℕ}
 use lib.Dec.{eqb}
-use borrow.Author.Rules.{rules}
 use Rattle.numbers.specs.Lists.{any}
-use Rattle.numbers.specs.Refusals.{first_told}
 use Rattle.numbers.proofs.Refusals.{or_none, tells, passes}
 use Rattle.numbers.proofs.NeverTold.{Without}
-use Rattle.points.specs.Points.{kind_of, unfit_number, unfit_row, large_row, value_rows, is_of_reading, with_index}
+use Rattle.points.specs.Points.{kind_of, unfit_number, unfit_row, large_row, is_of_reading, with_index}
 use Rattle.points.proofs.PointKinds.{unfit_numbered, unfit_other}
 use Rattle.points.proofs.Indexes.{no_index_in}
 use Rattle.points.proofs.value_refusal.Goals as goal
@@ -28,9 +26,8 @@ returns-then-unfit-ne-ACCEPTED c =
 
 pub returns : goal.returns
 returns c =
-    let at = c.before.before in
-    let a = at.args in
+    let a = c.args in
     let unfit = unfit_row a.tag a.value.now in
     let large = large_row a.tag a.value.now in
-    let next = passes unfit large at.unfit_refusal-unfit.ensures (unfit_numbered a.tag a.value.now) at.if-unfit-ne-ACCEPTED.false in
+    let next = passes unfit large c.unfit_refusal-unfit.ensures (unfit_numbered a.tag a.value.now) c.if-unfit-ne-ACCEPTED.false in
     c.large_refusal.ensures ∙ ap (λ n. with_index n a.tag a.value.now) (sym next)

@@ -10,19 +10,16 @@ use Rattle.printing.proofs.write_text.Goals as goal
 
 pub returns-then-refusal-ne-ACCEPTED : goal.returns-then-refusal-ne-ACCEPTED
 returns-then-refusal-ne-ACCEPTED c =
-    let k = c.before.before.before.before.before in
-    let is = k.close-closed.ensures in
-    let refused = ap (λ closed. refused_text closed.refusal) is ∙ text_refused k.args.ending (rw is at c.if-refusal-ne-ACCEPTED.true) in
+    let is = c.close-closed.ensures in
+    let refused = ap (λ closed. refused_text closed.refusal) is ∙ text_refused c.args.ending (rw is at c.if-refusal-ne-ACCEPTED.true) in
     let p = named refused c.put_line.ensures.placed in
     (front_end p, (search rules, (p.bytes, front_counts p)))
 
 pub returns : goal.returns
 returns c =
-    let accepted = c.before.before.before.before.before.before.before in
-    let k = accepted.before in
-    let ending = k.args.ending in
-    let is = k.close-closed.ensures in
-    let e = sym (ap (λ closed. closed.refusal) is) ∙ accepted.if-refusal-ne-ACCEPTED.false in
+    let ending = c.args.ending in
+    let is = c.close-closed.ensures in
+    let e = sym (ap (λ closed. closed.refusal) is) ∙ c.if-refusal-ne-ACCEPTED.false in
     let put = rw c.slot_totals-totals.ensures at c.put_figures.ensures in
     let p = named (ap (λ closed. settled_text ending.state-1 closed.figures-1) is ∙ text_settled ending e) put in
     (front_end p, (omega (arith, p.within), (p.bytes, front_counts p)))

@@ -1,72 +1,42 @@
 -- Too few days, or the results on the chosen ones: by what the day choice and the baseline promise.
 use mathlib.Core.Path.{◌≡◌, sym}
-use mathlib.Core.Bool.{true}
 use native.Mathlib.Omega.{arith}
-use borrow.Author.Rules.{rules}
-use borrow.Author.Tests.{not-true, not-false}
 use Rattle.numbers.proofs.Parts.{rest_of}
 use Rattle.points.specs.Points.{consumer_readings_at}
 use Rattle.results.proofs.Consumers.{dated, classed, lossy, tested, too_few, baselines_small, consumer_results}
 use Rattle.results.proofs.consumer_found.Goals as goal
-use Rattle.results.proofs.consumer_found.Tie as tie
-
-abbrev counted : tie.After-chosen_days-arg-1 → tie.After-day_count-test
-counted c = c.before.before
-
-abbrev start : tie.After-chosen_days-arg-1 → tie.Start
-start c = (counted c).before.before
-
--- behind the choice of days, there are four
-module _ (c : tie.Else-not-enough) where
-  abbrev chosen : tie.After-chosen_days-chosen
-  chosen = c.before
-
-  four : chosen.chosen_days-chosen.result.enough ≡ true
-  four = not-false _ c.if-not-enough.false-raw
-
-pub chosen_days-chosen-requires : goal.chosen_days-chosen-requires
-chosen_days-chosen-requires c =
-    let s = start c.before in
-    record { back = omega (arith, (counted c.before).day_count-test.ensures.within); tested = rw (rest_of s.args.value.now consumer_readings_at) (tested s.pre) }
-
-pub returns-then-not-enough : goal.returns-then-not-enough
-returns-then-not-enough c =
-    let at_days = c.before.before.before in
-    sym (too_few (start at_days).requires (counted at_days).day_count-test.ensures.counted c.chosen_days-chosen.ensures.chosen (not-true _ c.if-not-enough.true-raw))
-
-pub baselines_on-slots-requires : goal.baselines_on-slots-requires
-baselines_on-slots-requires c =
-    let at_days = chosen c.before.before.before in
-    let s = start at_days.before in
-    (rw (rest_of s.args.value.now consumer_readings_at) (tested s.pre), at_days.chosen_days-chosen.ensures.back)
-
-pub loss_of-loss-requires : goal.loss_of-loss-requires
-loss_of-loss-requires c = classed (start (chosen c.before.before.before.before.before.before).before).requires
-
-pub consumer_results-found-requires : goal.consumer_results-found-requires
-consumer_results-found-requires c =
-    let at_slots = c.before.before.before.before.before in
-    let at_four = at_slots.before.before.before in
-    let at_days = chosen at_four in
-    let s = start at_days.before in (
-      rw c.loss_of-loss.ensures (lossy s.pre),
-      baselines_small s.pre (counted at_days.before).day_count-test.ensures.counted at_days.chosen_days-chosen.ensures.chosen (four at_four) at_slots.baselines_on-slots.ensures,
-      rw (rest_of s.args.value.now consumer_readings_at) (tested s.pre),
-    )
-
-pub day_bytes-told-requires : goal.day_bytes-told-requires
-day_bytes-told-requires c = (chosen c.before.before.before.before.before.before.before.before.before).chosen_days-chosen.ensures.back
-
-pub returns : goal.returns
-returns c =
-    let at_results = c.before.before in
-    let at_loss = at_results.before.before in
-    let at_slots = at_loss.before.before.before in
-    let at_four = at_slots.before.before.before in
-    let at_days = chosen at_four in
-    let s = start at_days.before in
-    let found = consumer_results s.pre (counted at_days.before).day_count-test.ensures.counted at_days.chosen_days-chosen.ensures.chosen (four at_four) at_slots.baselines_on-slots.ensures in
-    rw (at_results.consumer_results-found.ensures, at_loss.loss_of-loss.ensures, rest_of s.args.value.now consumer_readings_at, c.day_bytes-told.ensures) (sym found)
 
 pub day_count-test-requires : goal.day_count-test-requires
 day_count-test-requires c = dated c.requires
+
+pub chosen_days-chosen-requires : goal.chosen_days-chosen-requires
+chosen_days-chosen-requires c =
+    record { back = omega (arith, c.day_count-test.ensures.within); tested = rw (rest_of c.args.value.now consumer_readings_at) (tested c.requires) }
+
+pub returns-then-not-enough : goal.returns-then-not-enough
+returns-then-not-enough c =
+    sym (too_few c.requires c.day_count-test.ensures.counted c.chosen_days-chosen.ensures.chosen c.if-not-enough.true)
+
+-- behind the choice of days, there are four
+
+pub baselines_on-slots-requires : goal.baselines_on-slots-requires
+baselines_on-slots-requires c = (rw (rest_of c.args.value.now consumer_readings_at) (tested c.requires), c.chosen_days-chosen.ensures.back)
+
+pub loss_of-loss-requires : goal.loss_of-loss-requires
+loss_of-loss-requires c = classed c.requires
+
+pub consumer_results-found-requires : goal.consumer_results-found-requires
+consumer_results-found-requires c =
+    let chosen = c.chosen_days-chosen.ensures in (
+      rw c.loss_of-loss.ensures (lossy c.requires),
+      baselines_small c.requires c.day_count-test.ensures.counted chosen.chosen c.if-not-enough.false c.baselines_on-slots.ensures,
+      rw (rest_of c.args.value.now consumer_readings_at) (tested c.requires),
+    )
+
+pub day_bytes-told-requires : goal.day_bytes-told-requires
+day_bytes-told-requires c = c.chosen_days-chosen.ensures.back
+
+pub returns : goal.returns
+returns c =
+    let found = consumer_results c.requires c.day_count-test.ensures.counted c.chosen_days-chosen.ensures.chosen c.if-not-enough.false c.baselines_on-slots.ensures in
+    rw (c.consumer_results-found.ensures, c.loss_of-loss.ensures, rest_of c.args.value.now consumer_readings_at, c.day_bytes-told.ensures) (sym found)

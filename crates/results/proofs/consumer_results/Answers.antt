@@ -14,12 +14,10 @@ use Rattle.results.proofs.consumer_results.Goals as goal
 
 pub consumer_result-requires : goal.consumer_result-requires
 consumer_result-requires c =
-    let at_loop = c.before.before.before in
-    let s = at_loop.before.before in
-    let j = at_loop.loop-j.j in
-    let tested = s.requires.2 in
-    let used = reading_bound s.args.readings.now tested.small 0 (s.args.slot + j) (omega arith) (omega (arith, tested.window)) in
-    (s.requires.0, s.requires.1 j, rw c.word32_at-used.ensures (simp zero-add at used))
+    let j = c.loop-j.j in
+    let tested = c.requires.2 in
+    let used = reading_bound c.args.readings.now tested.small 0 (c.args.slot + j) (omega arith) (omega (arith, tested.window)) in
+    (c.requires.0, c.requires.1 j, rw c.word32_at-used.ensures (simp zero-add at used))
 
 pub loop-j-preserved : goal.loop-j-preserved
 loop-j-preserved c =

@@ -7,7 +7,7 @@ use Rattle.choosing.proofs.Choices.{four_places}
 use Rattle.results.proofs.day_bytes.Goals as goal
 
 pub returns : goal.returns
-returns c = let days = c.args.t1 in sym (four_places days (omega arith)) ∙ take_all 4 days (omega arith)
+returns c = let days = c.args.days in sym (four_places days (omega arith)) ∙ take_all 4 days (omega arith)
 
 pub overflow_cast-result : goal.overflow_cast-result
 overflow_cast-result c = omega (arith, c.requires 0)

@@ -1,8 +1,9 @@
 use mathlib.Core.Path.{sym, ◌∙◌}
 use Rattle.results.proofs.SlotResults.{floor_one}
 use mir.Facts.{to_z-of_z}
+use mir.Syntax.{w64}
 use borrow.Author.Rules.{rules, sfits_of}
 use Rattle.results.proofs.generator_result.Goals as goal
 
 pub returns : goal.returns
-returns c = to_z-of_z (sfits_of c.minus.type_inv) ∙ c.minus.ensures ∙ sym (floor_one _)
+returns c = to_z-of_z {w = w64} (sfits_of c.minus.type_inv) ∙ c.minus.ensures ∙ sym (floor_one _)

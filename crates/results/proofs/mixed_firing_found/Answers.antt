@@ -16,11 +16,9 @@ use Rattle.results.proofs.mixed_firing_found.Goals as goal
 
 pub loop-j-preserved : goal.loop-j-preserved
 loop-j-preserved c =
-    let at_inside = c.before.before in
-    let at_outside = at_inside.before in
-    let l = at_outside.loop-j in
+    let l = c.loop-j in
     let result = told w64 c.mixed_firing_result.type_inv c.mixed_firing_result.ensures in
-    (l.invariant.0, filled_more l.invariant.1 (pos 0) _ (omega arith) (result ∙ rw (at_outside.word32_at-outside.ensures, at_inside.word32_at-inside.ensures, l.invariant.0, zero-add)))
+    (l.invariant.0, filled_more l.invariant.1 (pos 0) _ (omega arith) (result ∙ rw (c.word32_at-outside.ensures, c.word32_at-inside.ensures, l.invariant.0, zero-add)))
 
 pub returns : goal.returns
 returns c =

@@ -11,7 +11,6 @@ apart index number h = (omega arith, omega arith)
 
 pub returns : goal.returns
 returns c =
-    let answered = c.before.before.before.before.before in
-    let e = answered.write_point-answer.ensures in
-    let both = apart answered.write_point-answer.result.index answered.write_point-answer.result.number (search rules) in
+    let e = c.write_point-answer.ensures in
+    let both = apart c.write_point-answer.result.index c.write_point-answer.result.number (search rules) in
     (both.0 ∙ ap (λ r. r.number) e.0, (both.1 ∙ ap (λ r. r.index) e.0, e.1))

@@ -21,28 +21,23 @@ returns-then-form-ne-ACCEPTED c =
 
 pub slice_bounds-is_number-end : goal.slice_bounds-is_number-end
 slice_bounds-is_number-end c =
-    let s = c.before.before.before.before in
     let e = sym c.form_refusal-form.ensures ∙ c.if-form-ne-ACCEPTED.false in
-    omega (arith, long_enough s.args.tag (length s.args.value.now) e)
+    omega (arith, long_enough c.args.tag (length c.args.value.now) e)
 
 pub returns-then-not-is_number : goal.returns-then-not-is_number
 returns-then-not-is_number c =
-    let f = c.before.before.before.before in
-    let e = sym f.form_refusal-form.ensures ∙ f.if-form-ne-ACCEPTED.false in
+    let e = sym c.form_refusal-form.ensures ∙ c.if-form-ne-ACCEPTED.false in
     let n = ap not (sym c.is_number.ensures) ∙ c.if-not-is_number.true-raw in
-    let a = f.args in
+    let a = c.args in
     no_index a.tag a.value.now (sym (number_told _ _ e (not-true _ n))) refl
 
 pub value_refusal-requires : goal.value_refusal-requires
 value_refusal-requires c =
-    let f = c.before.before.before.before in
-    let s = f.before.before.before in
-    right_length s.args.tag (length s.args.value.now) (sym f.form_refusal-form.ensures ∙ f.if-form-ne-ACCEPTED.false)
+    right_length c.args.tag (length c.args.value.now) (sym c.form_refusal-form.ensures ∙ c.if-form-ne-ACCEPTED.false)
 
 pub returns : goal.returns
 returns c =
-    let f = c.before.before.before.before.before in
-    let e = sym f.form_refusal-form.ensures ∙ f.if-form-ne-ACCEPTED.false in
+    let e = sym c.form_refusal-form.ensures ∙ c.if-form-ne-ACCEPTED.false in
     let n = ap not (sym c.is_number.ensures) ∙ c.if-not-is_number.false-raw in
-    let a = f.args in
+    let a = c.args in
     c.value_refusal.ensures ∙ ap (λ n. with_index n a.tag a.value.now) (sym (number_passed _ _ e (not-false _ n)))

@@ -18,24 +18,19 @@ bounds-out-2 c =
 
 pub loop-i-init : goal.loop-i-init
 loop-i-init c =
-    let s = c.before.before.before.before in
-    let o = headed s.args.out.now s.args.tag c.length_bytes-length.result in
-    (search rules, refl, omega (arith, headed_length s.args.out.now s.args.tag c.length_bytes-length.result), paste-zero o 3 s.args.value.now)
+    let o = headed c.args.out.now c.args.tag c.length_bytes-length.result in
+    (search rules, refl, omega (arith, headed_length c.args.out.now c.args.tag c.length_bytes-length.result), paste-zero o 3 c.args.value.now)
 
 pub bounds-out-i : goal.bounds-out-i
 bounds-out-i c =
-    let a = c.before.before.before.before in
-    let s = a.before.before.before in
-    let o = headed s.args.out.now s.args.tag a.length_bytes-length.result in
+    let o = headed c.args.out.now c.args.tag c.length_bytes-length.result in
     let l = c.loop-i in
-    omega (arith, ap length l.invariant.3 ∙ length-paste o 3 s.args.value.now l.i (omega arith) (omega arith))
+    omega (arith, ap length l.invariant.3 ∙ length-paste o 3 c.args.value.now l.i (omega arith) (omega arith))
 
 pub loop-i-preserved : goal.loop-i-preserved
 loop-i-preserved c =
-    let a = c.before.before.before.before in
-    let s = a.before.before.before in
-    let v = s.args.value.now in
-    let o = headed s.args.out.now s.args.tag a.length_bytes-length.result in
+    let v = c.args.value.now in
+    let o = headed c.args.out.now c.args.tag c.length_bytes-length.result in
     let l = c.loop-i in (
       search rules,
       l.invariant.1,
@@ -45,20 +40,16 @@ loop-i-preserved c =
 
 pub shape_of-out : goal.shape_of-out
 shape_of-out c =
-    let a = c.before.before.before in
-    let s = a.before.before.before in
-    let o = headed s.args.out.now s.args.tag a.length_bytes-length.result in
+    let o = headed c.args.out.now c.args.tag c.length_bytes-length.result in
     let l = c.loop-i in
-    ap length l.invariant.3 ∙ length-paste o 3 s.args.value.now l.i (omega arith) (omega arith)
-    ∙ headed_length s.args.out.now s.args.tag a.length_bytes-length.result
+    ap length l.invariant.3 ∙ length-paste o 3 c.args.value.now l.i (omega arith) (omega arith)
+    ∙ headed_length c.args.out.now c.args.tag c.length_bytes-length.result
 
 pub returns : goal.returns
 returns c =
-    let a = c.before.before.before in
-    let s = a.before.before.before in
-    let v = s.args.value.now in
-    let o = headed s.args.out.now s.args.tag a.length_bytes-length.result in
+    let v = c.args.value.now in
+    let o = headed c.args.out.now c.args.tag c.length_bytes-length.result in
     let l = c.loop-i in
     let e : l.i ≡ length v = omega arith in
-    l.invariant.3 ∙ ap (paste o 3 v) e ∙ ap (λ b. paste (headed s.args.out.now s.args.tag b) 3 v (length v)) a.length_bytes-length.ensures
-    ∙ headed_value s.args.out.now v s.args.tag (omega arith)
+    l.invariant.3 ∙ ap (paste o 3 v) e ∙ ap (λ b. paste (headed c.args.out.now c.args.tag b) 3 v (length v)) c.length_bytes-length.ensures
+    ∙ headed_value c.args.out.now v c.args.tag (omega arith)

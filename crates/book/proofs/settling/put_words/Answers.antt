@@ -13,9 +13,6 @@ loop-i-init c =
     let n : length c.args.words ≡ 8 = search rules in
     (search rules, c.requires, words_length c.args.words ∙ omega arith, refl)
 
-pub !?slice-write-result : goal.!?slice-write-result
-!?slice-write-result c = let l = c.loop-i in omega (arith, ap length l.invariant.3 ∙ front_length _ _ l.i (omega arith) (omega arith))
-
 pub loop-i-preserved : goal.loop-i-preserved
 loop-i-preserved c =
     let l = c.loop-i in

@@ -10,7 +10,7 @@ use Rattle.book.proofs.Results.{words_length}
 use Rattle.book.proofs.settling.put_words.Given as goal
 
 abbrev pub invariant-loop-i : goal.invariant-loop-i
-invariant-loop-i l = (l.i ≤ 64) × (length l.initial.result ≡ 64) × (length (word_bytes l.words) ≡ 64) × (l.result ≡ front l.initial.result (word_bytes l.words) l.i)
+invariant-loop-i l = (l.i ≤ 64) × (length l.initial.res ≡ 64) × (length (word_bytes l.words) ≡ 64) × (l.res ≡ front l.initial.res (word_bytes l.words) l.i)
 
 abbrev pub decreases-loop-i : goal.decreases-loop-i
 decreases-loop-i l = 64 - l.i

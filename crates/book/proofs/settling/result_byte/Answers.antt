@@ -13,6 +13,5 @@ use Rattle.book.proofs.settling.result_byte.Goals as goal
 
 pub returns : goal.returns
 returns c =
-    let s = c.before.before.before in
-    let e = c.word_bytes-bytes.ensures ∙ ap (λ (z : ℤ). bytes_of 8 (twos_complement z)) (word_back (get_or s.args.t1 (s.args.i / 8) (pos 0)) c.word_bytes-arg-1.given) in
-    ap (λ bytes. get_or bytes (s.args.i % 8) 0) e ∙ sym (words_at s.args.t1 s.args.i (omega arith))
+    let e = c.word_bytes-bytes.ensures ∙ ap (λ (z : ℤ). bytes_of 8 (twos_complement z)) (word_back (get_or c.args.words (c.args.i / 8) (pos 0)) c.word_bytes-arg-1.given) in
+    ap (λ bytes. get_or bytes (c.args.i % 8) 0) e ∙ sym (words_at c.args.words c.args.i (omega arith))

@@ -5,8 +5,7 @@ use Rattle.book.proofs.settling.words_of.Goals as goal
 
 pub returns : goal.returns
 returns c =
-    let s = c.before.before.before.before.before.before.before.before.before in
-    let figures = s.args.figures in
+    let figures = c.args.figures in
     let one = c.signed-shortfall in
     let two = c.signed-expected in
     let three = c.signed-kept in

@@ -4,7 +4,6 @@ use native.Mathlib.Omega.{arith}
 use Rattle.fields.specs.declared.Field.TheVariants.{Refused}
 use Rattle.fields.proofs.Headers.{header_shows}
 use Rattle.fields.proofs.Answers.{field_refused, field_cut, field_good}
-use borrow.Author.Rules.{rules}
 use Rattle.fields.proofs.cutting.cut.Goals as goal
 
 pub returns-then-refusal-ne-ACCEPTED : goal.returns-then-refusal-ne-ACCEPTED
@@ -14,8 +13,7 @@ returns-then-refusal-ne-ACCEPTED c =
 
 pub bounds-left-0 : goal.bounds-left-0
 bounds-left-0 c =
-    let s = c.before.before.before.before.before in
-    omega (arith, header_shows s.args.due s.args.left.now (sym c.header_refusal-refusal.ensures ∙ c.if-refusal-ne-ACCEPTED.false))
+    omega (arith, header_shows c.args.due c.args.left.now (sym c.header_refusal-refusal.ensures ∙ c.if-refusal-ne-ACCEPTED.false))
 
 pub returns-then-left-size : goal.returns-then-left-size
 returns-then-left-size c =

@@ -1,6 +1,5 @@
 -- One number for head and calendar, another where a point is due and no byte is left.
 use native.Mathlib.Omega.{arith}
-use borrow.Author.Rules.{rules}
 use borrow.Author.Tests.{lt-ltb, le-ltb, eq-eqb}
 use Rattle.fields.proofs.Headers.{some_bytes}
 use Rattle.fields.proofs.cutting.short_refusal.Goals as goal
@@ -12,10 +11,10 @@ pub returns-then-left-ne0 : goal.returns-then-left-ne0
 returns-then-left-ne0 c = let a = c.args in simp (some_bytes a.due a.left c.if-left-ne0.true, lt-ltb _ _ c.if-left-ge-HEADER_LENGTH.false)
 
 pub returns-in-Head : goal.returns-in-Head
-returns-in-Head c = rw c.enum_told-1.given.1 (simp (lt-ltb _ _ c.if-left-ge-HEADER_LENGTH.false))
+returns-in-Head c = rw c.in-Head.is (simp (lt-ltb _ _ c.if-left-ge-HEADER_LENGTH.false))
 
 pub returns-in-Calendar : goal.returns-in-Calendar
-returns-in-Calendar c = rw c.enum_told-in-Calendar-1.given.1 (simp (lt-ltb _ _ c.if-left-ge-HEADER_LENGTH.false))
+returns-in-Calendar c = rw c.in-Calendar.is (simp (lt-ltb _ _ c.if-left-ge-HEADER_LENGTH.false))
 
 pub returns-in-Point : goal.returns-in-Point
-returns-in-Point c = rw c.enum_told-in-Point-1.given.1 (simp (eq-eqb _ _ c.if-left-ne0.false))
+returns-in-Point c = rw c.in-Point.is (simp (eq-eqb _ _ c.if-left-ne0.false))

@@ -1,14 +1,13 @@
 -- By what is due.
 use mathlib.Core.Path.{◌∙◌}
-use borrow.Author.Rules.{rules}
 use Rattle.fields.proofs.Headers.{point_tag}
 use Rattle.fields.proofs.cutting.tag_refusal.Goals as goal
 
 pub returns-in-Head : goal.returns-in-Head
-returns-in-Head c = rw c.enum_told-1.given.1 c.head_tag_refusal.ensures
+returns-in-Head c = rw c.in-Head.is c.head_tag_refusal.ensures
 
 pub returns-in-Calendar : goal.returns-in-Calendar
-returns-in-Calendar c = rw c.enum_told-in-Calendar-1.given.1 c.calendar_tag_refusal.ensures
+returns-in-Calendar c = rw c.in-Calendar.is c.calendar_tag_refusal.ensures
 
 pub returns-in-Point : goal.returns-in-Point
-returns-in-Point c = rw c.enum_told-in-Point-1.given.1 (c.tag_refusal.ensures ∙ point_tag c.args.tag)
+returns-in-Point c = rw c.in-Point.is (c.tag_refusal.ensures ∙ point_tag c.args.tag)
