@@ -1,12 +1,11 @@
 -- The index that is told with a refusal. Assumes nothing.
-use mathlib.Core.Path.{◌≡◌, refl, ap, sym, ◌∙◌}
+use mathlib.Core.Path.{◌≡◌, refl, ap, ◌∙◌}
 use mathlib.Core.Bool.{Bool, true, false}
 use mathlib.Core.List.{List}
 use Prim.Native.Nat.{ℕ}
 use Rattle.numbers.specs.Refusals.{first_told}
 use Rattle.numbers.proofs.NeverTold.{Without, never}
 use Rattle.points.specs.Points.{kind_of, large_at, is_of_reading, with_index}
-use Rattle.points.specs.declared.Refusal.{Refusal}
 
 module _ (tag : ℕ) (value : List ℕ) where
   -- a refusal that is about no reading

@@ -3,11 +3,11 @@ use mathlib.Core.Path.{◌≡◌, refl, ap, sym, ◌∙◌}
 use mathlib.Core.Logic.{⊎_elim}
 use mathlib.Core.Bool.{Bool, true, false, cond, true≢false}
 use mathlib.Core.List.{List, ◌++◌}
-use Prim.Native.Nat.{ℕ, ◌+◌, ◌*◌, ◌<◌, ◌≤◌}
+use Prim.Native.Nat.{ℕ, ◌*◌, ◌<◌, ◌≤◌}
 use native.Mathlib.Nat.{add_assoc, le_antisymm}
 use native.Mathlib.Decide.{ℕ_discrete}
 use native.Mathlib.Omega.{arith}
-use lib.Dec.{T, ltb, eqb}
+use lib.Dec.{T}
 use lib.Seq.{get_or-drop}
 use borrow.Author.Tests.{ltb-true, ltb-false, ne_eqb}
 use Rattle.numbers.specs.Refusals.{first_told}
@@ -17,7 +17,7 @@ use Rattle.numbers.proofs.Refusals.{numbered, passed, both_accepted}
 use Rattle.numbers.proofs.NeverTold.{Without, told_within}
 use Rattle.readings.specs.Readings.{reading_length, most_reading, first_large}
 use Rattle.readings.proofs.Large.{first_bound, none_large, first_is_large, first_is_first}
-use Rattle.points.specs.Points.{Kind, consumer, consumer_tag, kind_of, readings_at, readings_of, readings_in, is_unfit, large_at, has_large}
+use Rattle.points.specs.Points.{Kind, consumer, consumer_tag, kind_of, readings_of, readings_in, is_unfit, large_at, has_large}
 use Rattle.points.specs.Points.{is_of_test_day, large_number, unfit_row, value_rows, is_of_reading, index_told}
 use Rattle.points.specs.TooLarge.{reading_at, IsFirstLarge, TellsReading}
 use Rattle.points.proofs.PointKinds.{of_tag, is_of_reading_or17, unfit_above, unfit_other, unfit, large, large_number_lem, large_above, large_other, values_numbered, all_small}

@@ -1,7 +1,6 @@
 -- `calendar::day_count` meets its contract: the count of a date is bounded, so that no sum wraps. Assumes nothing.
 use mathlib.Core.Path.{refl}
 use native.Mathlib.Omega.{arith}
-use borrow.Author.Rules.{rules}
 use Rattle.calendar.specs.Dates.{day_count}
 use Rattle.calendar.proofs.Dates.{parts, count_least, count_most}
 use Rattle.calendar.proofs.day_count.Goals as goal

@@ -23,6 +23,6 @@ returns-else-is_leap c =
     let e = c.common_days_before-common.ensures in
     let leap = c.is_leap.ensures in
     elim c.else-is_leap.branch [
-      else-is_leap-via-then-is_leap+else-month-gt2 w ↦ rw (e, ← leap, w.if-is_leap.true, le-ltb _ _ w.if-month-gt2.false) (sym (add-zero _))
-    | else-is_leap-via-else-is_leap w ↦ rw (e, ← leap, w.if-is_leap.false) (sym (add-zero _))
+      | else-is_leap-via-then-is_leap+else-month-gt2 w ↦ rw (e, ← leap, w.if-is_leap.true, le-ltb _ _ w.if-month-gt2.false) (sym (add-zero _))
+      | else-is_leap-via-else-is_leap w ↦ rw (e, ← leap, w.if-is_leap.false) (sym (add-zero _))
     ]

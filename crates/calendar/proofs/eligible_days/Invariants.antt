@@ -1,13 +1,9 @@
 -- `calendar::eligible_days` meets its contract. The loop's invariant: the places before `k` are filled. Assumes nothing.
-use mathlib.Core.Path.{refl, ◌∙◌}
 use mathlib.Core.Bool.{false}
 use Prim.Native.Nat.{◌-◌}
-use native.Mathlib.Nat.{add_comm, add-sub_cancel_left}
-use native.Mathlib.Omega.{arith}
 use lib.ListN.{replicate}
-use borrow.Author.Rules.{rules}
 use Rattle.numbers.specs.Slots.{days_back}
-use Rattle.numbers.proofs.Filling.{Filled, filled_none, filled_more, filled_all}
+use Rattle.numbers.proofs.Filling.{Filled}
 use Rattle.calendar.specs.Eligible.{is_eligible}
 use Rattle.calendar.proofs.eligible_days.Given as goal
 

@@ -1,7 +1,6 @@
 -- `calendar::is_date` meets its contract: each way out that refuses has a part that no date has. Assumes nothing.
 use mathlib.Core.Path.{sym, ◌∙◌}
 use native.Mathlib.Omega.{arith}
-use borrow.Author.Rules.{rules}
 use borrow.Author.Tests.{le-leb, lt-leb}
 use Rattle.calendar.specs.Dates.{first_year, last_year, is_date}
 use Rattle.calendar.proofs.Dates.{not_date}

@@ -1,12 +1,8 @@
-use mathlib.Core.Path.{◌≡◌, sym, ◌∙◌}
-use mathlib.Core.Bool.{Bool, not}
-use Prim.Native.Nat.{ℕ, ◌≤◌, ◌-◌}
+use mathlib.Core.Path.{sym, ◌∙◌}
 use native.Mathlib.Omega.{arith}
-use lib.ListN.{length, get_or, drop}
-use borrow.Author.Rules.{rules}
+use lib.ListN.{get_or}
 use Rattle.numbers.specs.Lists.{any}
 use Rattle.numbers.proofs.Scanning.{any_here, any_next, any_end}
-use Rattle.calendar.specs.Eligible.{is_mark}
 use Rattle.calendar.proofs.Marks.{mark_told, mark_passed}
 use Rattle.calendar.proofs.marks_refusal.Goals as goal
 use Rattle.calendar.proofs.marks_refusal.Invariants.{is_wrong}

@@ -1,14 +1,10 @@
 -- What is left of the marks decides.
-use mathlib.Core.Path.{◌≡◌, sym, ◌∙◌}
+use mathlib.Core.Path.{◌≡◌}
 use mathlib.Core.Bool.{Bool, not}
 use Prim.Native.Nat.{ℕ, ◌≤◌, ◌-◌}
-use native.Mathlib.Omega.{arith}
-use lib.ListN.{length, get_or, drop}
-use borrow.Author.Rules.{rules}
+use lib.ListN.{length, drop}
 use Rattle.numbers.specs.Lists.{any}
-use Rattle.numbers.proofs.Scanning.{any_here, any_next, any_end}
 use Rattle.calendar.specs.Eligible.{is_mark}
-use Rattle.calendar.proofs.Marks.{mark_told, mark_passed}
 use Rattle.calendar.proofs.marks_refusal.Given as goal
 
 abbrev pub is_wrong : ℕ → Bool

@@ -2,7 +2,6 @@
 use mathlib.Core.Path.{◌∙◌}
 use borrow.Author.Tests.{eq-eqb, ne_eqb}
 use Rattle.feeding.specs.Feeding.{end_fed}
-use borrow.Author.Rules.{rules}
 use Rattle.feeding.proofs.feed_end.Goals as goal
 
 pub returns-then-bytes-ne0 : goal.returns-then-bytes-ne0

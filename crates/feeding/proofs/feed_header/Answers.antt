@@ -4,7 +4,6 @@ use native.Mathlib.Omega.{arith}
 use borrow.Author.Tests.{eq-eqb, ne_eqb}
 use Rattle.feeding.specs.Feeding.{header_fed}
 use Rattle.fields.proofs.Headers.{header_shows}
-use borrow.Author.Rules.{rules}
 use Rattle.feeding.proofs.feed_header.Goals as goal
 
 pub returns-then-refusal-ne-ACCEPTED : goal.returns-then-refusal-ne-ACCEPTED
@@ -13,7 +12,7 @@ returns-then-refusal-ne-ACCEPTED c = let e = c.header_refusal-refusal.ensures in
 
 pub bounds-bytes-0 : goal.bounds-bytes-0
 bounds-bytes-0 c =
-    omega (arith, header_shows c.args.kind c.args.bytes.now (sym c.header_refusal-refusal.ensures ∙ c.if-refusal-ne-ACCEPTED.false))
+    let long = (header_shows c.args.kind c.args.bytes.now (sym c.header_refusal-refusal.ensures ∙ c.if-refusal-ne-ACCEPTED.false)).long in omega arith
 
 pub returns : goal.returns
 unfolding header_fed

@@ -1,5 +1,4 @@
 use mathlib.Core.Path.{◌∙◌, ap}
-use borrow.Author.Rules.{rules}
 use Rattle.heads.specs.Heads.{head_with, head_of}
 use Rattle.heads.proofs.head_of.Goals as goal
 

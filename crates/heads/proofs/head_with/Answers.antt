@@ -1,4 +1,3 @@
-use borrow.Author.Rules.{rules}
 use Rattle.heads.proofs.head_with.Goals as goal
 
 pub returns : goal.returns

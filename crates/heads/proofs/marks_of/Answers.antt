@@ -1,9 +1,7 @@
-use mathlib.Core.Path.{◌≡◌, refl, ◌∙◌}
-use Prim.Native.Nat.{◌≤◌, ◌-◌}
+use mathlib.Core.Path.{refl, ◌∙◌}
 use native.Mathlib.Omega.{arith}
-use lib.ListN.{length}
 use borrow.Author.Rules.{rules}
-use Rattle.numbers.proofs.Filling.{front, front_more, front_all}
+use Rattle.numbers.proofs.Filling.{front_more, front_all}
 use Rattle.heads.proofs.marks_of.Goals as goal
 
 pub loop-i-init : goal.loop-i-init

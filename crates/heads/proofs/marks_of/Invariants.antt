@@ -1,10 +1,8 @@
 -- The marks are filled in from the front.
-use mathlib.Core.Path.{◌≡◌, refl, ◌∙◌}
+use mathlib.Core.Path.{◌≡◌}
 use Prim.Native.Nat.{◌≤◌, ◌-◌}
-use native.Mathlib.Omega.{arith}
 use lib.ListN.{length}
-use borrow.Author.Rules.{rules}
-use Rattle.numbers.proofs.Filling.{front, front_more, front_all}
+use Rattle.numbers.proofs.Filling.{front}
 use Rattle.heads.proofs.marks_of.Given as goal
 
 abbrev pub invariant-loop-i : goal.invariant-loop-i

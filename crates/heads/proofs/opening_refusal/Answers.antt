@@ -1,6 +1,5 @@
 -- The lengths, then the values.
 use mathlib.Core.Path.{◌∙◌}
-use borrow.Author.Rules.{rules}
 use borrow.Author.Tests.{eq-eqb, ne_eqb}
 use Rattle.heads.specs.Heads.{content_refusal, opening_refusal}
 use Rattle.heads.proofs.opening_refusal.Goals as goal

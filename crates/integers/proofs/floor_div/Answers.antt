@@ -4,7 +4,6 @@ use lib.IntN.{pos}
 use mir.Facts.{to_z_pos}
 use mir.Syntax.{w64}
 use mir.Val.{to_z}
-use borrow.Author.Rules.{rules}
 use Rattle.integers.proofs.Machine.{quot_fits, below_fits, floor_below, floor_whole}
 use Rattle.integers.proofs.floor_div.Goals as goal
 

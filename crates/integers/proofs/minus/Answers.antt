@@ -1,5 +1,4 @@
 use mir.Syntax.{w64}
-use borrow.Author.Rules.{rules}
 use Rattle.integers.proofs.Machine.{minus_fits, minus_is}
 use Rattle.integers.proofs.minus.Goals as goal
 

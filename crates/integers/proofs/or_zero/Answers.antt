@@ -1,5 +1,4 @@
 use mathlib.Core.Path.{refl, sym, ap}
-use borrow.Author.Rules.{rules}
 use Rattle.integers.specs.Integers.{or_zero}
 use Rattle.integers.proofs.Machine.{is_negative, is_positive}
 use Rattle.integers.proofs.or_zero.Goals as goal

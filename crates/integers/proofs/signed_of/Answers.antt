@@ -1,7 +1,6 @@
 -- A word of the upper half stands for a negative number: as far below −1 as the word is below the highest.
 use Prim.Native.Nat.{◌-◌}
 use native.Mathlib.Omega.{arith}
-use borrow.Author.Rules.{rules}
 use borrow.Author.Tests.{lt-ltb, le-ltb}
 use Rattle.integers.specs.Integers.{most_word}
 use Rattle.integers.proofs.TwosComplement.{less_fits, less_back}

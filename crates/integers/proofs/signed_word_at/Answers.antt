@@ -1,5 +1,4 @@
 use mathlib.Core.Path.{ap, ◌∙◌}
-use borrow.Author.Rules.{rules}
 use Rattle.integers.specs.Integers.{signed_of}
 use Rattle.integers.proofs.Machine.{told}
 use mir.Syntax.{w64}

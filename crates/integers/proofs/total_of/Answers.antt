@@ -1,13 +1,12 @@
 use mathlib.Core.Path.{◌≡◌, refl, sym, ap, ◌∙◌}
-use Prim.Native.Nat.{◌≤◌, ◌+◌, ◌-◌, ◌*◌}
+use Prim.Native.Nat.{◌+◌}
 use native.Mathlib.Omega.{arith}
-use lib.IntN.{ℤ, pos, nat_abs, ◌+ℤ◌, +ℤ_idl}
-use lib.ListN.{length, get_or, drop}
+use lib.IntN.{ℤ, pos, ◌+ℤ◌, +ℤ_idl}
+use lib.ListN.{get_or, drop}
 use mir.Syntax.{w64}
 use mir.Val.{to_z}
 use borrow.Author.Rules.{rules}
-use Rattle.numbers.specs.Slots.{window_slots}
-use Rattle.integers.specs.Integers.{sum_ℤ, most_summand}
+use Rattle.integers.specs.Integers.{sum_ℤ}
 use Rattle.integers.proofs.Machine.{back, told, sum_abs}
 use Rattle.integers.proofs.Sums.{sumℤ-next, sumℤ-end}
 use Rattle.integers.proofs.total_of.Goals as goal

@@ -1,5 +1,4 @@
 use mathlib.Core.Path.{sym, ap}
-use borrow.Author.Rules.{rules}
 use Rattle.integers.specs.Integers.{twos_complement}
 use Rattle.integers.proofs.Machine.{is_negative, is_positive}
 use Rattle.integers.proofs.twos_complement.Goals as goal

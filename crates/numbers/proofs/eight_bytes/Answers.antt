@@ -1,4 +1,3 @@
-use borrow.Author.Rules.{rules}
 use Rattle.numbers.specs.Words.{bytes_of}
 use Rattle.numbers.proofs.eight_bytes.Goals as goal
 

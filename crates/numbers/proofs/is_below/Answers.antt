@@ -1,9 +1,5 @@
-use mathlib.Core.Path.{◌≡◌, sym, ◌∙◌}
-use Prim.Native.Nat.{◌≤◌, ◌-◌}
+use mathlib.Core.Path.{sym, ◌∙◌}
 use native.Mathlib.Omega.{arith}
-use lib.ListN.{length, drop}
-use borrow.Author.Rules.{rules}
-use Rattle.numbers.specs.PointNumbers.{below}
 use Rattle.numbers.proofs.PointNumbers.{below_next, below_stop, below_end, below_past}
 use Rattle.numbers.proofs.is_below.Goals as goal
 

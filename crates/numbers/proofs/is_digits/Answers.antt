@@ -1,9 +1,5 @@
-use mathlib.Core.Path.{◌≡◌, sym, ◌∙◌}
-use Prim.Native.Nat.{◌≤◌, ◌-◌}
+use mathlib.Core.Path.{sym, ◌∙◌}
 use native.Mathlib.Omega.{arith}
-use lib.ListN.{length, drop}
-use borrow.Author.Rules.{rules}
-use Rattle.numbers.specs.PointNumbers.{digits}
 use Rattle.numbers.proofs.PointNumbers.{digits_next, digits_low, digits_high, digits_end}
 use Rattle.numbers.proofs.is_digits.Goals as goal
 

@@ -1,11 +1,8 @@
 -- The invariant: the answer is that for the bytes from place i on.
-use mathlib.Core.Path.{◌≡◌, sym, ◌∙◌}
+use mathlib.Core.Path.{◌≡◌}
 use Prim.Native.Nat.{◌≤◌, ◌-◌}
-use native.Mathlib.Omega.{arith}
 use lib.ListN.{length, drop}
-use borrow.Author.Rules.{rules}
 use Rattle.numbers.specs.PointNumbers.{digits}
-use Rattle.numbers.proofs.PointNumbers.{digits_next, digits_low, digits_high, digits_end}
 use Rattle.numbers.proofs.is_digits.Given as goal
 
 abbrev pub invariant-loop-i : goal.invariant-loop-i

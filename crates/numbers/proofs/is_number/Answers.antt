@@ -1,5 +1,4 @@
 use mathlib.Core.Path.{sym, ◌∙◌}
-use borrow.Author.Rules.{rules}
 use borrow.Author.Tests.{eq-eqb, ne_eqb, not-true, not-false}
 use Rattle.numbers.specs.PointNumbers.{is_number}
 use Rattle.numbers.proofs.is_number.Goals as goal

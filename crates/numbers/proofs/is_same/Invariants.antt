@@ -1,13 +1,7 @@
 -- The invariant: the bytes before place i are equal.
-use mathlib.Core.Path.{◌≡◌, sym, ap}
-use mathlib.Core.List.{List}
+use mathlib.Core.Path.{◌≡◌}
 use Prim.Native.Nat.{ℕ, ◌≤◌, ◌<◌, ◌-◌}
-use native.Mathlib.Omega.{arith}
 use lib.ListN.{length, get_or}
-use lib.Seq.{ext_get_or}
-use borrow.Author.Count.{below_more}
-use borrow.Author.Rules.{rules}
-use Rattle.numbers.proofs.Same.{is_same, not_same}
 use Rattle.numbers.proofs.is_same.Given as goal
 
 abbrev pub invariant-loop-i : goal.invariant-loop-i

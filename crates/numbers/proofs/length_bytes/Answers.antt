@@ -1,4 +1,3 @@
-use borrow.Author.Rules.{rules}
 use Rattle.numbers.specs.Words.{bytes_of}
 use Rattle.numbers.proofs.length_bytes.Goals as goal
 

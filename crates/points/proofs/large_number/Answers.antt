@@ -1,5 +1,4 @@
 -- A point of another kind, a consumer's test day, its days back.
-use mathlib.Core.Path.{◌≡◌}
 use native.Mathlib.Omega.{arith}
 use borrow.Author.Tests.{lt-ltb, le-ltb}
 use Rattle.numbers.specs.Slots.{slots_of_day}

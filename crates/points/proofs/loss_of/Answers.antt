@@ -2,7 +2,6 @@ use mathlib.Core.Path.{◌≡◌, ap}
 use Prim.Native.Nat.{ℕ, ◌-◌}
 use native.Mathlib.Omega.{arith}
 use lib.ListN.{get_or}
-use borrow.Author.Rules.{rules}
 use Rattle.points.proofs.loss_of.Goals as goal
 
 pub returns-in-1 : goal.returns-in-1

@@ -1,10 +1,9 @@
-use mathlib.Core.Path.{◌≡◌, refl, ◌∙◌}
-use Prim.Native.Nat.{◌≤◌, ◌-◌}
+use mathlib.Core.Path.{refl, ◌∙◌}
 use native.Mathlib.Omega.{arith}
-use lib.ListN.{length, take}
+use lib.ListN.{take}
 use lib.Seq.{get_or-take, length-take-le}
 use borrow.Author.Rules.{rules}
-use Rattle.numbers.proofs.Filling.{front, front_more, front_all}
+use Rattle.numbers.proofs.Filling.{front_more, front_all}
 use Rattle.points.proofs.number_of.Goals as goal
 
 pub loop-i-init : goal.loop-i-init

@@ -1,14 +1,12 @@
 -- The class, the baseline or the share, then the readings.
-use mathlib.Core.Path.{◌≡◌, refl, ap, sym, ◌∙◌}
+use mathlib.Core.Path.{ap, sym, ◌∙◌}
 use mathlib.Core.List.{List}
 use Prim.Native.Nat.{ℕ}
 use lib.Dec.{eqb}
-use borrow.Author.Rules.{rules}
 use Rattle.numbers.specs.Lists.{any}
-use Rattle.numbers.specs.Refusals.{first_told}
 use Rattle.numbers.proofs.Refusals.{or_none, tells, passes}
 use Rattle.numbers.proofs.NeverTold.{Without}
-use Rattle.points.specs.Points.{kind_of, unfit_number, unfit_row, large_row, value_rows, is_of_reading, with_index}
+use Rattle.points.specs.Points.{kind_of, unfit_number, unfit_row, large_row, is_of_reading, with_index}
 use Rattle.points.proofs.PointKinds.{unfit_numbered, unfit_other}
 use Rattle.points.proofs.Indexes.{no_index_in}
 use Rattle.points.proofs.value_refusal.Goals as goal

@@ -1,5 +1,4 @@
 -- `earlier_use` meets its contract. Assumes nothing.
-use borrow.Author.Rules.{rules}
 use Rattle.readings.specs.Readings.{earlier_use}
 use Rattle.readings.proofs.earlier_use.Goals as goal
 

@@ -1,10 +1,7 @@
 use mathlib.Core.Path.{◌≡◌, sym, ◌∙◌}
-use Prim.Native.Nat.{◌≤◌, ◌-◌, ◌+◌, ◌*◌}
 use native.Mathlib.Nat.{zero-add, sub-zero}
 use native.Mathlib.Omega.{arith}
-use lib.ListN.{length}
 use borrow.Author.Rules.{rules}
-use Rattle.readings.specs.Readings.{reading_length, first_large}
 use Rattle.readings.proofs.Large.{from, left_pass, left_none_in, left_found_in}
 use Rattle.readings.proofs.Packing.{small_of}
 use Rattle.readings.proofs.first_large.Goals as goal
@@ -24,8 +21,8 @@ loop-i-preserved c =
     let s = c.args.readings.now in
     let none : from s l.i 16 ≡ 16
     = elim c.if-not-is_small.branch [
-      then-not-is_small+else-found-i w ↦ left_none_in s l.i 0 16 _ w.first_large_from-found.ensures (omega (arith, w.if-found-i.false))
-    | else-not-is_small w ↦ c.sixteen_packed.ensures (small_of _ _ c.is_small.ensures w.if-not-is_small.false-raw)
+      | then-not-is_small+else-found-i w ↦ left_none_in s l.i 0 16 _ w.first_large_from-found.ensures (omega (arith, w.if-found-i.false))
+      | else-not-is_small w ↦ c.sixteen_packed.ensures (small_of _ _ c.is_small.ensures w.if-not-is_small.false-raw)
     ]
     in
     (omega arith, l.invariant.1, l.invariant.2 ∙ left_pass s l.i _ 16 (omega arith) none)

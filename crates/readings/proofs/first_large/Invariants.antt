@@ -1,14 +1,9 @@
 -- `first_large` meets its contract. The invariant: the first too large reading is the first from reading i on. Assumes nothing.
-use mathlib.Core.Path.{◌≡◌, sym, ◌∙◌}
-use mathlib.Core.Logic.{⊎_elim}
+use mathlib.Core.Path.{◌≡◌}
 use Prim.Native.Nat.{◌≤◌, ◌-◌, ◌+◌, ◌*◌}
-use native.Mathlib.Nat.{zero-add, sub-zero}
-use native.Mathlib.Omega.{arith}
 use lib.ListN.{length}
-use borrow.Author.Rules.{rules}
 use Rattle.readings.specs.Readings.{reading_length, first_large}
-use Rattle.readings.proofs.Large.{from, left_pass, left_none_in, left_found_in}
-use Rattle.readings.proofs.Packing.{small_of}
+use Rattle.readings.proofs.Large.{from}
 use Rattle.readings.proofs.first_large.Given as goal
 
 abbrev pub invariant-loop-i : goal.invariant-loop-i

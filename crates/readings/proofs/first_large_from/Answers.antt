@@ -1,9 +1,5 @@
 use mathlib.Core.Path.{◌≡◌, sym, ◌∙◌}
-use Prim.Native.Nat.{◌≤◌, ◌-◌, ◌+◌, ◌*◌}
 use native.Mathlib.Omega.{arith}
-use lib.ListN.{length}
-use borrow.Author.Rules.{rules}
-use Rattle.readings.specs.Readings.{reading_length}
 use Rattle.readings.proofs.Large.{from, left_pass, left_stop, left_none, one_fits}
 use Rattle.readings.proofs.first_large_from.Goals as goal
 

@@ -1,11 +1,9 @@
 -- `first_large_from` meets its contract. The invariant: the first too large reading is the first from reading i on. Assumes nothing.
-use mathlib.Core.Path.{◌≡◌, sym, ◌∙◌}
+use mathlib.Core.Path.{◌≡◌}
 use Prim.Native.Nat.{◌≤◌, ◌-◌, ◌+◌, ◌*◌}
-use native.Mathlib.Omega.{arith}
 use lib.ListN.{length}
-use borrow.Author.Rules.{rules}
 use Rattle.readings.specs.Readings.{reading_length}
-use Rattle.readings.proofs.Large.{from, left_pass, left_stop, left_none, one_fits}
+use Rattle.readings.proofs.Large.{from}
 use Rattle.readings.proofs.first_large_from.Given as goal
 
 abbrev pub invariant-loop-i : goal.invariant-loop-i

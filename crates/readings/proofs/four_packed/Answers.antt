@@ -1,5 +1,4 @@
 -- `four_packed` meets its contract. Assumes nothing.
-use borrow.Author.Rules.{rules}
 use Rattle.readings.proofs.Packing.{passes_or}
 use Rattle.readings.proofs.four_packed.Goals as goal
 

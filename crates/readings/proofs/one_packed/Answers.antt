@@ -1,5 +1,4 @@
 -- `one_packed` meets its contract. Assumes nothing.
-use borrow.Author.Rules.{rules}
 use Rattle.readings.proofs.Large.{one_fits}
 use Rattle.readings.proofs.one_packed.Goals as goal
 

@@ -1,6 +1,5 @@
 -- `six_from` meets its contract. Assumes nothing.
 use Prim.Native.Nat.{◌*◌}
-use borrow.Author.Rules.{rules}
 use Rattle.numbers.specs.Words.{word32}
 use Rattle.readings.specs.Readings.{reading_length}
 use Rattle.readings.proofs.Sums.{six}

@@ -1,11 +1,7 @@
 -- `slot_sum` meets its contract. Assumes nothing.
 use mathlib.Core.Path.{sym, ◌∙◌}
-use Prim.Native.Nat.{ℕ, ◌≤◌}
 use native.Mathlib.Omega.{arith}
-use lib.ListN.{get_or}
-use borrow.Author.Rules.{rules}
-use Rattle.numbers.specs.Slots.{days_back}
-use Rattle.readings.specs.Readings.{reading, HasSlot}
+use Rattle.readings.specs.Readings.{reading}
 use Rattle.readings.proofs.Sums.{four}
 use Rattle.readings.proofs.slot_sum.Goals as goal
 

@@ -1,11 +1,7 @@
 use mathlib.Core.Path.{refl}
-use Prim.Native.Nat.{◌-◌}
 use native.Mathlib.Omega.{arith}
-use lib.ListN.{replicate}
-use borrow.Author.Rules.{rules}
-use Rattle.numbers.specs.Slots.{window_slots}
-use Rattle.numbers.proofs.Filling.{Filled, filled_none, filled_more, filled_all}
-use Rattle.readings.specs.Readings.{slot_sum, slot_sums}
+use Rattle.numbers.proofs.Filling.{filled_none, filled_more, filled_all}
+use Rattle.readings.specs.Readings.{slot_sums}
 use Rattle.readings.proofs.slot_sums.Goals as goal
 
 pub returns : goal.returns

@@ -1,12 +1,9 @@
 -- `slot_sums` meets its contract. The invariant: the first j places hold their sums. Assumes nothing.
-use mathlib.Core.Path.{refl}
 use Prim.Native.Nat.{◌-◌}
-use native.Mathlib.Omega.{arith}
 use lib.ListN.{replicate}
-use borrow.Author.Rules.{rules}
 use Rattle.numbers.specs.Slots.{window_slots}
-use Rattle.numbers.proofs.Filling.{Filled, filled_none, filled_more, filled_all}
-use Rattle.readings.specs.Readings.{slot_sum, slot_sums}
+use Rattle.numbers.proofs.Filling.{Filled}
+use Rattle.readings.specs.Readings.{slot_sum}
 use Rattle.readings.proofs.slot_sums.Given as goal
 
 abbrev pub invariant-loop-j : goal.invariant-loop-j

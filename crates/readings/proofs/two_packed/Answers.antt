@@ -1,6 +1,5 @@
 -- `two_packed` meets its contract. Assumes nothing.
 use native.Mathlib.Omega.{arith}
-use borrow.Author.Rules.{rules}
 use Rattle.readings.proofs.Large.{join}
 use Rattle.readings.proofs.two_packed.Goals as goal
 

@@ -1,7 +1,6 @@
 -- `window_sum` meets its contract. Assumes nothing.
 use mathlib.Core.Path.{sym, ap, ◌∙◌}
 use Prim.Native.Nat.{◌*◌}
-use borrow.Author.Rules.{rules}
 use Rattle.numbers.specs.Lists.{sum}
 use Rattle.numbers.specs.Slots.{slots_of_day, window_slots}
 use Rattle.numbers.specs.Words.{word32}

@@ -1,11 +1,7 @@
 use mathlib.Core.Path.{refl, ap, ◌∙◌}
-use Prim.Native.Nat.{◌-◌}
 use native.Mathlib.Nat.{add_comm}
 use native.Mathlib.Omega.{arith}
-use lib.ListN.{replicate}
-use borrow.Author.Rules.{rules}
-use Rattle.numbers.specs.Slots.{days_back}
-use Rattle.numbers.proofs.Filling.{Filled, filled_none, filled_more, filled_all}
+use Rattle.numbers.proofs.Filling.{filled_none, filled_more, filled_all}
 use Rattle.readings.specs.Readings.{window_sum, window_sums}
 use Rattle.readings.proofs.window_sums.Goals as goal
 

@@ -1,13 +1,9 @@
 -- `window_sums` meets its contract. The invariant: the first k places hold their sums. Assumes nothing.
-use mathlib.Core.Path.{refl, ap, ◌∙◌}
 use Prim.Native.Nat.{◌-◌}
-use native.Mathlib.Nat.{add_comm}
-use native.Mathlib.Omega.{arith}
 use lib.ListN.{replicate}
-use borrow.Author.Rules.{rules}
 use Rattle.numbers.specs.Slots.{days_back}
-use Rattle.numbers.proofs.Filling.{Filled, filled_none, filled_more, filled_all}
-use Rattle.readings.specs.Readings.{window_sum, window_sums}
+use Rattle.numbers.proofs.Filling.{Filled}
+use Rattle.readings.specs.Readings.{window_sum}
 use Rattle.readings.proofs.window_sums.Given as goal
 
 abbrev pub invariant-loop-k : goal.invariant-loop-k

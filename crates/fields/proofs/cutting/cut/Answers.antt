@@ -4,7 +4,6 @@ use native.Mathlib.Omega.{arith}
 use Rattle.fields.specs.declared.Field.TheVariants.{Refused}
 use Rattle.fields.proofs.Headers.{header_shows}
 use Rattle.fields.proofs.Answers.{field_refused, field_cut, field_good}
-use borrow.Author.Rules.{rules}
 use Rattle.fields.proofs.cutting.cut.Goals as goal
 
 pub returns-then-refusal-ne-ACCEPTED : goal.returns-then-refusal-ne-ACCEPTED

@@ -45,7 +45,7 @@ returns c =
     let a = c.args in
     let left = a.left.now in
     let next = passes (due_tag_row a.due (tag_at left)) (due_length_row a.due (tag_at left) (word16 left length_at))
-        c.tag_refusal-wrong.ensures (numbered_tag a.due (tag_at left)) c.if-wrong-ne-ACCEPTED.false
+    c.tag_refusal-wrong.ensures (numbered_tag a.due (tag_at left)) c.if-wrong-ne-ACCEPTED.false
     in
     c.length_refusal.ensures
     ∙ ap (λ (size : ℕ). first_told (due_length_row a.due (tag_at left) size)) c.word16_at.ensures

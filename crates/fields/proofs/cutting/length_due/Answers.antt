@@ -1,7 +1,6 @@
 -- By what is due; no value is longer than a consumer.
 use Rattle.points.specs.Points.{kind_of}
 use Rattle.points.proofs.PointKinds.{kind_small}
-use borrow.Author.Rules.{rules}
 use Rattle.fields.proofs.cutting.length_due.Goals as goal
 
 pub returns-in-Point : goal.returns-in-Point

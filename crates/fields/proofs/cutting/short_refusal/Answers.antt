@@ -1,6 +1,5 @@
 -- One number for head and calendar, another where a point is due and no byte is left.
 use native.Mathlib.Omega.{arith}
-use borrow.Author.Rules.{rules}
 use borrow.Author.Tests.{lt-ltb, le-ltb, eq-eqb}
 use Rattle.fields.proofs.Headers.{some_bytes}
 use Rattle.fields.proofs.cutting.short_refusal.Goals as goal

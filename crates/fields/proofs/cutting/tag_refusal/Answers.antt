@@ -1,6 +1,5 @@
 -- By what is due.
 use mathlib.Core.Path.{◌∙◌}
-use borrow.Author.Rules.{rules}
 use Rattle.fields.proofs.Headers.{point_tag}
 use Rattle.fields.proofs.cutting.tag_refusal.Goals as goal
 

@@ -1,6 +1,0 @@
--- Of the state of zeros.
-use borrow.Author.Rules.{rules}
-use Rattle.feeding.proofs.start.Goals as goal
-
-pub returns : goal.returns
-returns c = rw c.no_state-state.ensures
