@@ -7,6 +7,7 @@ use crate::faults;
 use heads::Head;
 use ledger::State;
 use numbers::WINDOW_SLOTS;
+use std::io::Read;
 
 // How many bytes a state has, and where the parts behind its head begin (specs/Parts).
 pub const STATE_LENGTH: usize = 123;
@@ -27,21 +28,21 @@ pub struct Part {
 }
 
 // Fills the bytes in the middle of a call: whether as many were there; where not, the fault was told.
-pub fn read_bytes(bytes: &mut [u8]) -> bool
+pub fn read_bytes<R: Read>(rt: &impl Eprint, source: &mut R, bytes: &mut [u8]) -> bool
     ensures { length bytes.new ≡ length bytes.old }
 {
-    let got = input::fill(bytes);
+    let got = input::fill(source, bytes);
     if got.failed {
-        return faults::unread();
+        return faults::unread(rt);
     }
     if got.count < bytes.len() {
-        return faults::cut();
+        return faults::cut(rt);
     }
     true
 }
 
 // A length of two bytes and as many bytes, which go to the front of the room; a part with no room is cut.
-pub fn read_part(room: &mut [u8]) -> Part
+pub fn read_part<R: Read>(rt: &impl Eprint, source: &mut R, room: &mut [u8]) -> Part
     ensures { result.length ≤ length room.old }
 {
     let missing = Part {
@@ -49,15 +50,15 @@ pub fn read_part(room: &mut [u8]) -> Part
         length: 0,
     };
     let mut front = [0u8; 2];
-    if !read_bytes(&mut front) {
+    if !read_bytes(rt, source, &mut front) {
         return missing;
     }
     let length = numbers::big16(front[0], front[1]) as usize;
     if room.len() < length {
-        faults::cut();
+        faults::cut(rt);
         return missing;
     }
-    if !read_bytes(&mut room[0..length]) {
+    if !read_bytes(rt, source, &mut room[0..length]) {
         return missing;
     }
     Part {

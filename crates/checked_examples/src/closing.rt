@@ -21,29 +21,29 @@ fn figures_of(baseline: u32, first: u32, others: u32) -> Figures {
     close(state, &value)
 }
 
-fn settled(figures: Figures, paper: &[u8]) {
-    text::put(b"closing total ");
-    text::signed(figures.total);
-    text::put(b": settled ");
-    text::signed(figures.settled);
-    text::paper(paper);
+fn settled(rt: &impl Print, figures: Figures, paper: &[u8]) {
+    text::put(rt, b"closing total ");
+    text::signed(rt, figures.total);
+    text::put(rt, b": settled ");
+    text::signed(rt, figures.settled);
+    text::paper(rt, paper);
 }
 
-fn bid(figures: Figures, paper: &[u8]) {
-    text::put(b"closing expected ");
-    text::number(figures.expected);
+fn bid(rt: &impl Print, figures: Figures, paper: &[u8]) {
+    text::put(rt, b"closing expected ");
+    text::number(rt, figures.expected);
     if figures.bid {
-        text::put(b": bid yes");
+        text::put(rt, b": bid yes");
     } else {
-        text::put(b": bid no");
+        text::put(rt, b": bid no");
     }
-    text::paper(paper);
+    text::paper(rt, paper);
 }
 
 // A baseline of 1 kW takes 500 Wh off each slot.
-pub fn examples() {
-    settled(figures_of(0, 2999, 0), b"0");
-    settled(figures_of(1, 2999, 0), b"-1");
-    bid(figures_of(0, 499999, 499999), b"no");
-    bid(figures_of(0, 500000, 500000), b"yes");
+pub fn examples(rt: &impl Print) {
+    settled(rt, figures_of(0, 2999, 0), b"0");
+    settled(rt, figures_of(1, 2999, 0), b"-1");
+    bid(rt, figures_of(0, 499999, 499999), b"no");
+    bid(rt, figures_of(0, 500000, 500000), b"yes");
 }

@@ -13,21 +13,21 @@ mod plants;
 mod text;
 
 // A book of no bytes.
-fn empty_book() {
+fn empty_book(rt: &impl Print) {
     let book = [0u8; 1];
     let mut result = [0u8; 64];
     let refusal = book::settling::settle(&book[0..0], &mut result);
-    text::put(b"empty book:");
-    text::refusal(refusal);
-    text::paper(b"31");
+    text::put(rt, b"empty book:");
+    text::refusal(rt, refusal);
+    text::paper(rt, b"31");
 }
 
-fn main() {
-    opening::examples();
-    adding::examples();
-    days::examples();
-    large::examples();
-    plants::examples();
-    closing::examples();
-    empty_book();
+fn main(rt: HostRuntime) {
+    opening::examples(&rt);
+    adding::examples(&rt);
+    days::examples(&rt);
+    large::examples(&rt);
+    plants::examples(&rt);
+    closing::examples(&rt);
+    empty_book(&rt);
 }

@@ -1,9 +1,9 @@
-// Standard input.
+// What a reader gives, such as standard input.
 #![tactic(auto)]
 
 ghost use Rattle.std.specs.Prelude.{◌≡◌, ◌≤◌, ◌<◌, length};
 
-use libc::STDIN_FILENO;
+use std::io::Read;
 
 // How many bytes came, fewer than there is room for where the input ends; or a read that failed.
 #[derive(Clone, Copy)]
@@ -13,24 +13,22 @@ pub struct Got {
 }
 
 // Fills the lent bytes from the front.
-pub fn fill(bytes: &mut [u8]) -> Got
+pub fn fill<R: Read>(source: &mut R, bytes: &mut [u8]) -> Got
     ensures count_in_bounds { result.count ≤ length bytes.old }
     ensures bytes_len_unchanged { length bytes.new ≡ length bytes.old }
 {
     let mut done: usize = 0;
     while done < bytes.len() {
-        let got = libc::read(STDIN_FILENO, &mut bytes[done..]);
-        if got < 0 {
-            return Got {
-                count: done,
-                failed: true,
-            };
+        match source.read(&mut bytes[done..]) {
+            Ok(0) => break,
+            Ok(more) => done += more,
+            Err(_) => {
+                return Got {
+                    count: done,
+                    failed: true,
+                };
+            }
         }
-        let more = io::count(got, &bytes[done..]);
-        if more == 0 {
-            break;
-        }
-        done += more;
     }
     Got {
         count: done,

@@ -12,7 +12,7 @@ use Rattle.numbers.specs.Refusals.{first_told}
 use Rattle.numbers.specs.Slots.{window_slots}
 use Rattle.numbers.proofs.NeverTold.{Without, never}
 use Rattle.heads.specs.Heads.{opening_tests, opening_refusal}
-use Rattle.ledger.specs.Operations.{open_of, add_of, closing_tests, closing_refusal, close_of}
+use Rattle.ledger.specs.Operations.{open_of, closing_tests, closing_refusal, close_of}
 use Rattle.ledger.specs.declared.State.{State}
 use Rattle.ledger.specs.declared.Closed.{Closed}
 use Rattle.ledger.proofs.Sound.{open_refusal, close_refusal}
@@ -20,7 +20,6 @@ use Rattle.calls.proofs.TooLarge.{adding_not_seventeen}
 use Rattle.fields.specs.Fields.{tag_at, length_due, field_tests, field_refusal, field_of}
 use Rattle.fields.specs.declared.Due.{Due}
 use Rattle.fields.specs.declared.Due.TheVariants as due
-use Rattle.fields.specs.declared.Field.{Field}
 use Rattle.fields.specs.declared.Field.TheVariants.{Value, Refused}
 use Rattle.writing.specs.Writing.{head_writing_tests, head_writing_refusal}
 use Rattle.writing.proofs.TooLarge.{writing_not_seventeen}

@@ -1,10 +1,12 @@
-use mathlib.Core.Path.{refl, sym, ◌∙◌}
+use mathlib.Core.Path.{◌≡◌, refl, sym, ◌∙◌}
 use mathlib.Core.Bool.{Bool}
 use mathlib.Core.List.{List}
-use Prim.Native.Nat.{ℕ, ◌≤◌, ◌<◌, ◌*◌}
+use mathlib.Core.Logic.{⊎_elim}
+use Rattle.std.proofs.lemmas.Bool.{cases_lt}
+use Prim.Native.Nat.{ℕ, ◌≤◌, ◌<◌, ◌*◌, ◌+◌, ◌-◌}
 use native.Mathlib.Nat.{zero-add}
 use native.Mathlib.Omega.{arith}
-use lib.ListN.{length, get_or}
+use lib.ListN.{length, get_or, set}
 use borrow.Author.Rules.{rules}
 use borrow.Author.Tests.{lt-ltb, le-ltb}
 use Rattle.numbers.specs.Lists.{sum}
@@ -14,7 +16,7 @@ use Rattle.choosing.specs.Days.{Rising}
 use Rattle.choosing.proofs.Rising.{rising_at}
 use Rattle.choosing.proofs.Keeping.{InPlace, none_kept, all_kept, here, parts, goes, stays, total_end}
 use Rattle.choosing.proofs.keep.Goals as goal
-use Rattle.choosing.proofs.keep.Goals.{then-all-sum, else-all-sum}
+use Rattle.choosing.proofs.keep.Invariants.{is_high}
 
 pub loop-i-init : goal.loop-i-init
 unfolding sum
@@ -42,20 +44,35 @@ bounds-sums-day c = omega (arith, in_range c.loop-i.invariant.1 (omega arith) c.
 pub overflow_sub-left : goal.overflow_sub-left
 overflow_sub-left c = let k = c.loop-i.invariant.1 in rw (here k) (omega (arith, parts k (omega arith)))
 
+-- One day more, by the test of the code: `places'`, `count'` and `left'` are what the two branches make.
+one_more : (sums days : List ℕ) (all size : ℕ) (places : List ℕ) (count left i : ℕ) {places' : List ℕ} {count' left' : ℕ}
+    → InPlace (of_day sums) (is_high sums all) days size places count left i
+    → i < length days
+    → count < size
+    → let day = get_or places i 0 in
+    let sum = get_or sums (day - 1) 0 in
+    (all ≤ sum * 20 → (count' ≡ count + 1) × (left' ≡ left) × (places' ≡ set places count day))
+    → (sum * 20 < all → (count' ≡ count) × (left' ≡ left - sum) × (places' ≡ places))
+    → InPlace (of_day sums) (is_high sums all) days size places' count' left' (i + 1)
+one_more sums days all size places count left i k h n stay go =
+    ⊎_elim
+    (λ (low : get_or sums (get_or places i 0 - 1) 0 * 20 < all).
+    let e = go low in
+    let l : of_day sums (get_or days i 0) * 20 < all = rw (here k) at low in
+    rw (e.2, e.0, e.1, here k) (goes k h (simp (lt-ltb _ _ l))))
+    (λ (high : all ≤ get_or sums (get_or places i 0 - 1) 0 * 20).
+    let e = stay high in
+    let l : all ≤ of_day sums (get_or days i 0) * 20 = rw (here k) at high in
+    rw (e.2, e.0, e.1, here k) (stays k h (simp (le-ltb _ _ l)) n))
+    (cases_lt _ _)
+
 pub loop-i-preserved : goal.loop-i-preserved
-loop-i-preserved c =
-    let a = c.args in
-    let k = c.loop-i.invariant.1 in
-    let w = of_day a.sums.now in
-    let d = get_or a.days.now c.loop-i.i 0 in
-    elim c.if-all-sum.branch [
-      | then-all-sum came ↦
-          let high : a.five.all ≤ w d * 20 = omega (arith, rw (here k) at came.if-all-sum.true) in
-          (omega arith, rw (came.days-is, came.count-is, came.left-is, here k) (stays k (omega arith) (simp (le-ltb _ _ high)) (omega arith)))
-      | else-all-sum came ↦
-          let low : w d * 20 < a.five.all = omega (arith, rw (here k) at came.if-all-sum.false) in
-          (omega arith, rw (came.days-is, came.count-is, came.left-is, here k) (goes k (omega arith) (simp (lt-ltb _ _ low))))
-    ]
+loop-i-preserved c = (
+  omega arith,
+  one_more _ _ _ _ _ _ _ _ c.loop-i.invariant.1 (omega arith) (omega arith)
+      (λ h. (omega arith, omega arith, grind arith))
+      (λ h. (omega arith, omega arith, grind arith)),
+)
 
 pub returns : goal.returns
 returns c =

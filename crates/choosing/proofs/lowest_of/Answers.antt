@@ -27,11 +27,9 @@ loop-i-preserved c =
     let w = of_day a.sums.now in
     elim c.if-sums-day.branch [
       | then-sums-day came ↦
-          let e = l.invariant.3 ∙ lower w l.low a.days l.i (omega arith) (omega (arith, came.if-sums-day.true)) ∙ rw came.low-is in
-          (omega arith, omega arith, omega arith, e)
+          (omega arith, omega arith, omega arith, l.invariant.3 ∙ lower w l.low a.days l.i (omega arith) (omega (arith, came.if-sums-day.true)) ∙ rw came.low-is)
       | else-sums-day came ↦
-          let e = l.invariant.3 ∙ not_lower w l.low a.days l.i (omega arith) (omega (arith, came.if-sums-day.false)) ∙ rw came.low-is in
-          (omega arith, omega arith, omega arith, e)
+          (omega arith, omega arith, omega arith, l.invariant.3 ∙ not_lower w l.low a.days l.i (omega arith) (omega (arith, came.if-sums-day.false)) ∙ rw came.low-is)
     ]
 
 pub returns : goal.returns

@@ -1,6 +1,6 @@
 -- An early refusal, too few days, and the point taken.
 use mathlib.Core.Path.{◌≡◌, refl, ap, sym, ◌∙◌}
-use mathlib.Core.Bool.{true, false, not}
+use mathlib.Core.Bool.{false, not}
 use mathlib.Core.List.{List}
 use Prim.Native.Nat.{ℕ}
 use native.Mathlib.Omega.{arith}
@@ -66,7 +66,7 @@ add_totals-sums-requires c =
     let n = length a.places.now in
     let f = facts a.state a.tag a.value.now n c.early_refusal-early.ensures c.if-refusal-ne-ACCEPTED.false in
     let found = found a.state a.tag a.value.now n c.early_refusal-early.ensures c.if-refusal-ne-ACCEPTED.false
-        c.results_of-answer.ensures (ap not c.if-not-enough.false)
+    c.results_of-answer.ensures (ap not c.if-not-enough.false)
     in
     λ i. rw (c.slot_totals-before.ensures, found.0) (f.sums i)
 
@@ -86,10 +86,10 @@ returns c =
     let a = c.args in
     let n = length a.places.now in
     let found = found a.state a.tag a.value.now n c.early_refusal-early.ensures c.if-refusal-ne-ACCEPTED.false
-        c.results_of-answer.ensures (ap not c.if-not-enough.false)
+    c.results_of-answer.ensures (ap not c.if-not-enough.false)
     in
     let accepted = accepted a.state a.tag a.value.now n c.early_refusal-early.ensures c.if-refusal-ne-ACCEPTED.false
-        c.results_of-answer.ensures (ap not c.if-not-enough.false)
+    c.results_of-answer.ensures (ap not c.if-not-enough.false)
     in
     record {
       answer = rw (c.add_totals-sums.ensures, c.slot_totals-before.ensures, c.number_of-number.ensures, found.0) (took a.state a.tag a.value.now n accepted found.1);

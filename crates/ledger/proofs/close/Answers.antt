@@ -1,7 +1,6 @@
 -- An unsound state, too few points, and the figures.
-use mathlib.Core.Path.{◌≡◌, sym, ◌∙◌}
+use mathlib.Core.Path.{sym, ◌∙◌}
 use borrow.Author.Tests.{lt-ltb, le-ltb}
-use Rattle.ledger.specs.States.{is_unsound}
 use Rattle.ledger.specs.Operations.{closing_refusal, close_of}
 use Rattle.ledger.proofs.Sound.{sound, total_small}
 use Rattle.ledger.proofs.close.Goals as goal

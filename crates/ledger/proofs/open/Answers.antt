@@ -1,5 +1,5 @@
 -- A refused opening gives the state of zeros, an accepted one the state that its bytes say.
-use mathlib.Core.Path.{◌≡◌, sym, ◌∙◌}
+use mathlib.Core.Path.{sym, ◌∙◌}
 use Rattle.heads.proofs.Opening.{opening_lengths}
 use Rattle.ledger.proofs.Sound.{open_good, open_bad}
 use Rattle.ledger.proofs.open.Goals as goal

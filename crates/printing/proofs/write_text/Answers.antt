@@ -1,11 +1,9 @@
 -- The one line of a refused book, or the lines of a settled one.
-use mathlib.Core.Path.{sym, ap, ◌∙◌}
-use native.Mathlib.Omega.{arith}
+use Rattle.std.proofs.Common.{sym, ap, ◌∙◌, arith}
 use Rattle.numbers.proofs.Places.{named, front_end}
 use Rattle.lines.proofs.Fronts.{front_counts}
 use Rattle.printing.specs.Printed.{settled_text, refused_text}
 use Rattle.printing.proofs.Texts.{text_refused, text_settled}
-use borrow.Author.Rules.{rules}
 use Rattle.printing.proofs.write_text.Goals as goal
 
 pub returns-then-refusal-ne-ACCEPTED : goal.returns-then-refusal-ne-ACCEPTED
@@ -13,7 +11,7 @@ returns-then-refusal-ne-ACCEPTED c =
     let is = c.close-closed.ensures in
     let refused = ap (λ closed. refused_text closed.refusal) is ∙ text_refused c.args.ending (rw is at c.if-refusal-ne-ACCEPTED.true) in
     let p = named refused c.put_line.ensures.placed in
-    (front_end p, (search rules, (p.bytes, front_counts p)))
+    record { value = front_end p; bound = omega arith; out_after = p.bytes; prefix_len = front_counts p }
 
 pub returns : goal.returns
 returns c =
@@ -21,8 +19,5 @@ returns c =
     let is = c.close-closed.ensures in
     let e = sym (ap (λ closed. closed.refusal) is) ∙ c.if-refusal-ne-ACCEPTED.false in
     let put = rw c.slot_totals-totals.ensures at c.put_figures.ensures in
-    let p = named (ap (λ closed. settled_text ending.state-1 closed.figures-1) is ∙ text_settled ending e) put in
-    (front_end p, (omega (arith, p.within), (p.bytes, front_counts p)))
-
-pub put_figures-requires : goal.put_figures-requires
-put_figures-requires c = omega arith
+    let p = named (ap (λ closed. settled_text ending.state closed.figures) is ∙ text_settled ending e) put in
+    record { value = front_end p; bound = omega (arith, p.within); out_after = p.bytes; prefix_len = front_counts p }

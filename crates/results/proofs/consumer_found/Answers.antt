@@ -1,5 +1,5 @@
 -- Too few days, or the results on the chosen ones: by what the day choice and the baseline promise.
-use mathlib.Core.Path.{◌≡◌, sym}
+use mathlib.Core.Path.{sym}
 use native.Mathlib.Omega.{arith}
 use Rattle.numbers.proofs.Parts.{rest_of}
 use Rattle.points.specs.Points.{consumer_readings_at}

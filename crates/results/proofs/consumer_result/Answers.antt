@@ -5,7 +5,7 @@ use Rattle.integers.specs.Integers.{floor_div}
 use Rattle.results.proofs.SlotResults.{scaled}
 use mir.Facts.{to_z-of_z}
 use mir.Syntax.{w64}
-use borrow.Author.Rules.{rules, sfits_of}
+use borrow.Author.Rules.{sfits_of}
 use Rattle.results.proofs.consumer_result.Goals as goal
 
 pub returns : goal.returns

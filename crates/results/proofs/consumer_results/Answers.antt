@@ -1,15 +1,12 @@
 use mathlib.Core.Path.{refl, ◌∙◌}
-use Prim.Native.Nat.{◌+◌, ◌-◌}
+use Prim.Native.Nat.{◌+◌}
 use native.Mathlib.Nat.{zero-add}
 use native.Mathlib.Omega.{arith}
 use lib.IntN.{pos}
-use lib.ListN.{replicate}
 use mir.Syntax.{w64}
-use borrow.Author.Rules.{rules}
-use Rattle.numbers.proofs.Filling.{Filled, filled_none, filled_more, filled_all}
+use Rattle.numbers.proofs.Filling.{filled_none, filled_more, filled_all}
 use Rattle.integers.proofs.Machine.{told}
 use Rattle.readings.proofs.Bounds.{reading_bound}
-use Rattle.results.specs.Steps.{consumer_slot}
 use Rattle.results.proofs.consumer_results.Goals as goal
 
 pub consumer_result-requires : goal.consumer_result-requires

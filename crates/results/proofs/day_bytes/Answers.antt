@@ -2,7 +2,6 @@
 use mathlib.Core.Path.{sym, ◌∙◌}
 use native.Mathlib.Omega.{arith}
 use lib.Seq.{take_all}
-use borrow.Author.Rules.{rules}
 use Rattle.choosing.proofs.Choices.{four_places}
 use Rattle.results.proofs.day_bytes.Goals as goal
 

@@ -1,18 +1,11 @@
 -- The results are filled in from the front.
-use mathlib.Core.Path.{◌≡◌, refl, sym, ap, ◌∙◌}
-use mathlib.Core.Bool.{true}
+use mathlib.Core.Path.{◌≡◌}
 use Prim.Native.Nat.{◌-◌}
-use native.Mathlib.Nat.{zero-add}
-use native.Mathlib.Omega.{arith}
 use lib.IntN.{pos}
 use lib.ListN.{replicate}
-use mir.Syntax.{w64}
-use borrow.Author.Rules.{rules}
-use Rattle.numbers.specs.Slots.{no_days}
-use Rattle.numbers.proofs.Filling.{Filled, filled_none, filled_more, filled_all}
-use Rattle.integers.proofs.Machine.{told}
+use Rattle.numbers.proofs.Filling.{Filled}
 use Rattle.points.specs.Points.{share_of}
-use Rattle.results.proofs.SlotResults.{mixed_firing_at, mixed_firing_results}
+use Rattle.results.proofs.SlotResults.{mixed_firing_at}
 use Rattle.results.proofs.mixed_firing_found.Given as goal
 
 abbrev pub invariant-loop-j : goal.invariant-loop-j

@@ -5,7 +5,6 @@ use native.Mathlib.Omega.{arith}
 use lib.IntN.{ℤ}
 use mir.Facts.{to_z_pos}
 use mir.Syntax.{w64}
-use borrow.Author.Rules.{rules}
 use Rattle.integers.specs.Integers.{floor_div}
 use Rattle.integers.proofs.Machine.{told}
 use Rattle.results.proofs.Bounds.{share_most}

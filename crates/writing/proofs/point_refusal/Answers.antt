@@ -9,7 +9,6 @@ use Rattle.points.proofs.PointKinds.{right_length, long_enough}
 use Rattle.points.proofs.Indexes.{no_index, no_index_in}
 use lib.ListN.{length}
 use Rattle.writing.proofs.WritingRows.{form_told, number_told, number_passed}
-use borrow.Author.Rules.{rules}
 use Rattle.writing.proofs.point_refusal.Goals as goal
 
 pub returns-then-form-ne-ACCEPTED : goal.returns-then-form-ne-ACCEPTED

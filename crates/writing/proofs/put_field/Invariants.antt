@@ -1,12 +1,8 @@
 -- The header is stored, then the value behind it, byte by byte.
-use mathlib.Core.Path.{◌≡◌, refl, sym, ap, ◌∙◌}
+use mathlib.Core.Path.{◌≡◌}
 use Prim.Native.Nat.{◌≤◌, ◌+◌, ◌-◌}
-use native.Mathlib.Numerals.{add-one}
-use native.Mathlib.Omega.{arith}
-use lib.ListN.{length, get_or, set}
-use lib.Seq.{paste, paste-zero, paste-suc, length-paste, lt-length-set}
-use borrow.Author.Rules.{rules}
-use Rattle.writing.proofs.Storing.{headed, headed_length, headed_value}
+use lib.ListN.{length}
+use lib.Seq.{paste}
 use Rattle.writing.proofs.put_field.Given as goal
 
 abbrev pub invariant-loop-i : goal.invariant-loop-i

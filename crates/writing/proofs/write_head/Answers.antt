@@ -47,7 +47,7 @@ put_field-requires-2 c =
     let x = c.put_field.new.out in
     let l = lengths h k opens in
     let e = first_length (written head_tag h) (written calendar_tag k) o x _ 20 (field_length h k opens) (room h k opens o c.if-out-lt-HEAD_ROOM.false)
-        c.put_field.ensures refl
+    c.put_field.ensures refl
     in
     (omega arith, omega (arith, length-take (length x - 20) (drop 20 x), length-drop 20 x))
 
@@ -59,6 +59,6 @@ returns c =
     let opens = sym c.opening_refusal-refusal.ensures ∙ c.if-refusal-ne-ACCEPTED.false in
     let w = head_written h k o opens c.if-out-lt-HEAD_ROOM.false in
     let both = both_parts (written head_tag h) (written calendar_tag k) o c.put_field.new.out c.put_field-2.new.out 20
-        (field_length h k opens) (room h k opens o c.if-out-lt-HEAD_ROOM.false) c.put_field.ensures c.put_field-2.ensures
+    (field_length h k opens) (room h k opens o c.if-out-lt-HEAD_ROOM.false) c.put_field.ensures c.put_field-2.ensures
     in
     record { value = w.0; out_after = both ∙ w.1 }

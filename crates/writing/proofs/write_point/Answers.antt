@@ -24,7 +24,7 @@ pub returns-then-out-value : goal.returns-then-out-value
 returns-then-out-value c =
     let a = c.args in
     let w = point_room a.tag a.value.now a.out.now (good a.tag a.value.now c.point_refusal-answer.ensures c.if-answer-ne-ACCEPTED.false)
-        c.if-out-value.true
+    c.if-out-value.true
     in
     record { answer = w.0; lent = w.1 }
 
@@ -37,6 +37,6 @@ pub returns : goal.returns
 returns c =
     let a = c.args in
     let w = point_written a.tag a.value.now a.out.now (good a.tag a.value.now c.point_refusal-answer.ensures c.if-answer-ne-ACCEPTED.false)
-        c.if-out-value.false
+    c.if-out-value.false
     in
     record { answer = w.0; lent = c.put_field.ensures ∙ w.1 }

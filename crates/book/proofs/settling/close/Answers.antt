@@ -1,7 +1,6 @@
 -- The reading's refusal, or closing's answer.
 use mathlib.Core.Path.{◌∙◌}
 use borrow.Author.Tests.{eq-eqb, ne_eqb}
-use borrow.Author.Rules.{rules}
 use Rattle.book.proofs.settling.close.Goals as goal
 
 pub returns-then-told-ne-ACCEPTED : goal.returns-then-told-ne-ACCEPTED

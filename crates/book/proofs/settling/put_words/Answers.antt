@@ -1,9 +1,8 @@
 use mathlib.Core.Path.{◌≡◌, refl, ap, ◌∙◌}
-use Prim.Native.Nat.{◌≤◌, ◌-◌}
 use native.Mathlib.Omega.{arith}
 use lib.ListN.{length}
 use borrow.Author.Rules.{rules}
-use Rattle.numbers.proofs.Filling.{front, front_more, front_all, front_length}
+use Rattle.numbers.proofs.Filling.{front_more, front_all, front_length}
 use Rattle.book.specs.Results.{word_bytes}
 use Rattle.book.proofs.Results.{words_length}
 use Rattle.book.proofs.settling.put_words.Goals as goal

@@ -1,12 +1,9 @@
 -- Byte by byte from the front.
-use mathlib.Core.Path.{◌≡◌, refl, ap, ◌∙◌}
+use mathlib.Core.Path.{◌≡◌}
 use Prim.Native.Nat.{◌≤◌, ◌-◌}
-use native.Mathlib.Omega.{arith}
 use lib.ListN.{length}
-use borrow.Author.Rules.{rules}
-use Rattle.numbers.proofs.Filling.{front, front_more, front_all, front_length}
+use Rattle.numbers.proofs.Filling.{front}
 use Rattle.book.specs.Results.{word_bytes}
-use Rattle.book.proofs.Results.{words_length}
 use Rattle.book.proofs.settling.put_words.Given as goal
 
 abbrev pub invariant-loop-i : goal.invariant-loop-i

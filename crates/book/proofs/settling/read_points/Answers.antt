@@ -1,11 +1,9 @@
-use mathlib.Core.Path.{◌≡◌, refl, sym, ap, ◌∙◌}
+use mathlib.Core.Path.{refl, sym, ap, ◌∙◌}
 use native.Mathlib.Omega.{arith}
-use lib.ListN.{length, drop}
 use borrow.Author.Rules.{rules}
-use Rattle.fields.specs.Fields.{field_of, refusal_of}
+use Rattle.fields.specs.Fields.{refusal_of}
 use Rattle.book.specs.Endings.{refused_with}
 use Rattle.fields.specs.declared.Due.TheVariants.{Point}
-use Rattle.fields.specs.declared.Field.TheVariants.{Value}
 use Rattle.book.proofs.Endings.{cut_here, cut_end, not_cut, stopped, went_on, bytes_behind, all_read}
 use Rattle.book.proofs.settling.read_points.Goals as goal
 

@@ -1,5 +1,4 @@
 -- With the state of zeros.
-use borrow.Author.Rules.{rules}
 use Rattle.book.proofs.settling.refused.Goals as goal
 
 pub returns : goal.returns

@@ -8,7 +8,6 @@ use Rattle.numbers.specs.Words.{bytes_of}
 use Rattle.integers.specs.Integers.{twos_complement}
 use Rattle.integers.proofs.Machine.{word_back}
 use Rattle.book.proofs.Results.{words_at}
-use borrow.Author.Rules.{rules}
 use Rattle.book.proofs.settling.result_byte.Goals as goal
 
 pub returns : goal.returns

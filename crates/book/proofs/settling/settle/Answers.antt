@@ -1,11 +1,10 @@
 -- No room, a refusal, or the figures.
-use mathlib.Core.Path.{◌≡◌, sym, ap, ◌∙◌}
-use mathlib.Core.List.{List}
-use Prim.Native.Nat.{ℕ, ◌<◌, ◌^◌}
+use mathlib.Core.Path.{sym, ap, ◌∙◌}
+use Prim.Native.Nat.{◌<◌, ◌^◌}
 use native.Mathlib.Omega.{arith}
 use lib.Signed.{mag}
 use Rattle.book.specs.Endings.{closed_after}
-use Rattle.book.specs.Settling.{closing_of, words_of}
+use Rattle.book.specs.Settling.{words_of}
 use Rattle.book.specs.Results.{word_bytes}
 use Rattle.book.proofs.Endings.{no_room, not_settled, all_settled}
 use Rattle.book.proofs.Results.{closed_small}

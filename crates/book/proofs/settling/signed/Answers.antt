@@ -1,7 +1,6 @@
 -- Its bits are those of the signed word.
 use mir.Syntax.{w64}
 use mir.Facts.{to_z_pos}
-use borrow.Author.Rules.{rules}
 use Rattle.book.proofs.settling.signed.Goals as goal
 
 pub returns : goal.returns

@@ -1,7 +1,6 @@
 -- Soundness, then room.
 use mathlib.Core.Path.{sym, ◌∙◌}
 use borrow.Author.Tests.{le-leb, lt-leb}
-use borrow.Author.Rules.{rules}
 use Rattle.ledger.proofs.adding.state_refusal.Goals as goal
 
 pub returns-then-is_unsound : goal.returns-then-is_unsound

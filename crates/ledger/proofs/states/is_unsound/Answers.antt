@@ -1,14 +1,9 @@
 -- Each way out is one of the four parts of the test.
-use mathlib.Core.Path.{◌≡◌, ap, sym, ◌∙◌}
-use mathlib.Core.Bool.{Bool, false, not, ◌&&◌}
-use Prim.Native.Nat.{ℕ, ◌≤◌, ◌*◌}
+use mathlib.Core.Path.{ap, sym, ◌∙◌}
+use mathlib.Core.Bool.{not}
 use native.Mathlib.Omega.{arith}
-use lib.Dec.{ltb}
 use borrow.Author.Tests.{eq-eqb, ne_eqb, lt-ltb, le-ltb}
-use Rattle.numbers.specs.PointNumbers.{is_number}
-use Rattle.heads.specs.Heads.{content_refusal}
 use Rattle.ledger.specs.States.{is_unsound}
-use Rattle.ledger.specs.declared.State.{State}
 use Rattle.ledger.proofs.states.is_unsound.Goals as goal
 
 pub returns-then-content_refusal-ne-ACCEPTED : goal.returns-then-content_refusal-ne-ACCEPTED
