@@ -1,7 +1,7 @@
 /* Tembuyas, the effectiveness test ledger, for C and C++: writes test books and settles them.
  *
- * Building and linking. `rt lib` in crates/tembuyas proves the library and makes out/libtembuyas.a there, for x86-64
- * Linux. It calls no other library and needs no flags:
+ * Building and linking. `rt lib --backend rattle` in crates/tembuyas proves the library and makes out/libtembuyas.a
+ * there, for x86-64 Linux. It calls no other library and needs no flags:
  *
  *     cc -Iinclude program.c crates/tembuyas/out/libtembuyas.a
  *

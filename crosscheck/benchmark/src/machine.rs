@@ -29,7 +29,7 @@ pub fn print() -> Result<(), String> {
         "processor: {processors} of {}, load at the start {load}",
         processor()?
     );
-    println!("proved ledger: libtembuyas.a as rt lib builds it");
+    println!("proved ledger: libtembuyas.a as examples/build builds it");
     println!(
         "separate settlement: {}, {}",
         env!("RUST_COMPILER"),
