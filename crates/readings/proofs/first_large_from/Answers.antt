@@ -12,7 +12,7 @@ pub loop-i-preserved : goal.loop-i-preserved
 loop-i-preserved c =
     let l = c.loop-i in
     let fits : from c.args.readings.now l.i 1 ≡ 1
-    = one_fits _ l.i (rw c.word32_at.ensures at c.if-word32_at-gt-MOST_READING.false)
+    = one_fits _ l.i (omega (arith, c.word32_at.ensures))
     in
     (omega arith, l.invariant.1, l.invariant.2 ∙ left_pass _ l.i _ 1 (omega arith) fits)
 

@@ -21,7 +21,7 @@ returns-then-res-ne-RESULT_LENGTH c =
 pub returns-then-refusal-ne-ACCEPTED : goal.returns-then-refusal-ne-ACCEPTED
 returns-then-refusal-ne-ACCEPTED c =
     let is = c.close-closed.ensures ∙ ap closed_after c.read-ending.ensures in
-    let w = not_settled c.args.book.now c.args.res.now c.if-res-ne-RESULT_LENGTH.false (rw is at c.if-refusal-ne-ACCEPTED.true) in
+    let w = not_settled c.args.book.now c.args.res.now (omega arith) (rw is at c.if-refusal-ne-ACCEPTED.true) in
     record { value = ap (λ y. y.refusal) is ∙ w.0; res_after = w.1 }
 
 pub words_of-words-requires : goal.words_of-words-requires
@@ -35,5 +35,5 @@ words_of-words-requires c =
 pub returns : goal.returns
 returns c =
     let is = c.close-closed.ensures ∙ ap closed_after c.read-ending.ensures in
-    let w = all_settled c.args.book.now c.args.res.now c.if-res-ne-RESULT_LENGTH.false (sym (ap (λ y. y.refusal) is) ∙ c.if-refusal-ne-ACCEPTED.false) in
+    let w = all_settled c.args.book.now c.args.res.now (omega arith) (sym (ap (λ y. y.refusal) is) ∙ c.if-refusal-ne-ACCEPTED.false) in
     record { value = w.0; res_after = c.put_words.ensures ∙ ap word_bytes (c.words_of-words.ensures ∙ ap (λ y. words_of y.figures) is) ∙ w.1 }
