@@ -44,7 +44,7 @@ FACTS = [
     (r"give a proof of that as the last argument.*", "the equation does not hold after rewriting"),
     (r"list the missing equation.*|`cc`: the equations do not join .*", "`cc`: the equation does not follow"),
     (r"`(rw|grw)`: no (occurrence|part) .*|`simp`: no equation of the list .*", "the equation does not speak of what is due"),
-    (r".*the two (types|sides|indices) .*|expected type .*|`omega` does not read .*|`borrow\..*", "the fact that is due and the one that is proved differ"),
+    (r".*the two (types|sides|indices) .*|expected type .*|`omega` does not read .*|`borrow\..*|`[^`]*` ≟ .*|computed as .*one side reads .*", "the fact that is due and the one that is proved differ"),
 ]
 DIFFER = re.compile(
     r"differ (?:only )?where one has `([^`|]+)` \(expected\)(?:, right after `[^`]*`,?)? and the other has `([^`|]+)` \(found\)"
