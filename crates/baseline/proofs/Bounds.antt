@@ -1,25 +1,29 @@
 -- How far back the chosen days are, and how large the sums over them and the baseline. Assumes nothing.
-use mathlib.Core.Path.{◌≡◌}
-use mathlib.Core.Bool.{Bool, true, false, cond}
-use mathlib.Core.List.{List}
-use Prim.Native.Nat.{ℕ, zero, suc, ◌+◌, ◌≤◌}
+use mathlib.Core.Path.{◌≡◌, ap}
+use mathlib.Core.List.{List, map-id}
+use Prim.Native.Nat.{ℕ, ◌+◌, ◌*◌, ◌≤◌}
 use native.Mathlib.Omega.{arith}
-use lib.ListN.{length, replicate}
-use Rattle.numbers.specs.Lists.{run}
-use Rattle.numbers.specs.Slots.{days_back, days_used, no_days, window_slots}
+use lib.ListN.{length}
+use Rattle.std.specs.List as list
+use Rattle.numbers.specs.Lists.{run, sum}
+use Rattle.numbers.specs.Slots.{days_back, days_used, window_slots}
+use Rattle.numbers.proofs.Chains.{sum_is}
 use Rattle.numbers.proofs.Filling.{run_length}
 use Rattle.calendar.specs.Eligible.{of_day, is_eligible, eligible_days}
 use Rattle.readings.specs.Readings.{reading_count, first_large, window_sums, last_window, earlier_slot, Back}
-use Rattle.readings.proofs.Sums.{run_within}
+use Rattle.readings.proofs.Sums.{run_within, days_within}
 use Rattle.readings.proofs.Bounds.{slot_sums_bound, earlier_use_bound}
-use Rattle.choosing.specs.Choosing.{is_few}
 use Rattle.baseline.specs.Baseline.{chosen_days, day_sums, baseline_on, baselines_on}
-use Rattle.choosing.specs.Days.{AtMost, Rising, choice}
+use Rattle.choosing.specs.Days.{AtMost, Rising}
 use Rattle.baseline.specs.Consumers.{Sums, most_consumer_baseline}
 use Rattle.choosing.proofs.SomeOf.{Few}
 use Rattle.choosing.proofs.Rising.{some_rising, rising_far}
 use Rattle.choosing.proofs.Flags.{flags_rising, flags_filter}
 use Rattle.choosing.proofs.Lowest.{chosen_few}
+
+-- numbers together, none of which is above a limit
+pub sum_bound : (b : ℕ) (xs : List ℕ) → AtMost b xs → list.sum xs ≤ b * length xs
+sum_bound b xs most = omega (arith, sum_is xs, ap sum (map-id xs), days_within (λ x. x) b xs (λ i l. most i))
 
 -- sums over at most four days, of which none is farther than thirty
 pub day_sums_bound : (readings : List ℕ) → first_large readings reading_count ≡ reading_count → (days : List ℕ) → length days ≤ days_used → Back days
@@ -55,17 +59,3 @@ module _ (test : ℕ) (marks readings : List ℕ) (s : ℕ) where
       → AtMost most_consumer_baseline (baselines_on readings (chosen_days test marks readings s) s)
   baselines_bound fits h =
       run_within (baseline_on readings (chosen_days test marks readings s) s) most_consumer_baseline 0 window_slots (λ j l. baseline_bound fits h (0 + j))
-
--- the answer's days too
-zeros_back : (n : ℕ) → Back (replicate n 0)
-zeros_back zero i = omega arith
-zeros_back (suc n) zero = omega arith
-zeros_back (suc n) (suc i) = zeros_back n i
-
-pub choice_back : (days : List ℕ) → Back days → Back (choice days).days
-unfolding choice
-choice_back days h = go (is_few days)
-  where
-    go : (t : Bool) → Back (cond t no_days days)
-    go true = zeros_back days_used
-    go false = h

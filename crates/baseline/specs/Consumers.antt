@@ -1,6 +1,6 @@
 -- What the contracts require of a consumer's readings and sums.
 use Rattle.std.specs.Prelude.{◌≡◌, List, [], ℕ, ◌+◌, ◌*◌, ◌≤◌, get_or}
-use Rattle.numbers.specs.Slots.{days_back, days_used, window_slots}
+use Rattle.numbers.specs.Slots.{days_used, window_slots}
 use Rattle.readings.specs.Readings.{most_reading, reading_count, first_large, earlier_by, HasWindow}
 use Rattle.choosing.specs.Days.{AtMost}
 
@@ -9,11 +9,6 @@ pub record Tested (readings : List ℕ) (slot : ℕ) : Type 0 where
   pub window : HasWindow readings slot
   pub small : first_large readings reading_count ≡ reading_count
   pub first : earlier_by ≤ slot
-
--- with the count of the test day, which has thirty days before it
-pub record TestedOn (test : ℕ) (readings : List ℕ) (slot : ℕ) : Type 0 where
-  pub back : days_back ≤ test
-  pub tested : Tested readings slot
 
 -- six window sums and six earlier sums, each of four readings
 pub record Sums (sums : List (List ℕ)) : Type 0 where

@@ -1,27 +1,20 @@
--- How a reading ends, by its next step: over what is left of the book, and over a book and a place in it. Assumes nothing.
-use mathlib.Core.Path.{◌≡◌, refl, sym, ap, ◌∙◌}
+-- How a reading ends, by its next step, over what is left of the book. Assumes nothing.
+use mathlib.Core.Path.{◌≡◌, refl, sym, ap, ap₂, subst, ◌∙◌}
 use mathlib.Core.List.{List}
-use Prim.Native.Nat.{ℕ, suc, ◌+◌, ◌-◌, ◌<◌, ◌≤◌}
+use Prim.Native.Nat.{ℕ, suc, ◌-◌, ◌<◌}
 use native.Mathlib.Omega.{arith}
 use borrow.Author.Tests.{eq-eqb, ne_eqb}
-use lib.ListN.{length, take, drop, length-drop}
-use lib.Seq.{drop-drop}
-use Rattle.numbers.proofs.Parts.{rest_of}
+use lib.ListN.{length}
 use Rattle.points.specs.Points.{Point}
 use Rattle.ledger.specs.Operations.{open_of, add_of}
 use Rattle.ledger.specs.declared.State.{State}
-use Rattle.ledger.specs.declared.Opened.{Opened}
-use Rattle.ledger.specs.declared.Added.{Added}
-use Rattle.fields.specs.Fields.{field_of, value_in, behind}
+use Rattle.ledger.specs.Operations.{Opened}
+use Rattle.ledger.specs.Operations.{Added}
+use Rattle.fields.specs.Fields.{Value, Refused, field_of, value_in, behind}
 use Rattle.book.specs.Reading.{Reading, refused, good, ◌>>=◌, Points, before, read_points, Book, book_of, read_book}
 use Rattle.book.specs.Endings.{refused_with, points_ending, book_ending}
 use Rattle.book.specs.Settling.{closing_of, result_length, result_bytes, settling_refusal, settling_result}
-use Rattle.fields.specs.declared.Due.{Due}
 use Rattle.fields.specs.declared.Due.TheVariants as due
-use Rattle.book.specs.declared.Ending.{Ending}
-use Rattle.fields.specs.declared.Field.{Field}
-use Rattle.fields.specs.declared.Field.TheVariants.{Value, Refused}
-use Rattle.fields.proofs.Answers.{cut_within}
 use Rattle.book.proofs.Readings.{Told, book_told}
 
 -- ---- points
@@ -56,6 +49,36 @@ module _ (state : State) (left : List ℕ) where
       unfolding read_points
       point_taken w = rw (e, eq-eqb _ _ w) (before_ending (record { tag = tag; value = value_in size left }) (read_points n added.state (behind size left)))
 
+-- ---- as the code goes: n points are due, and one is cut off or not
+
+module _ (n : ℕ) (state : State) (left : List ℕ) where
+  pub none_due : n ≡ 0 → length left ≡ 0 → points_ending (read_points n state left) ≡ record { refusal = 0; state = state }
+  none_due z e = rw z (at_end state left e)
+
+  pub bytes_after : n ≡ 0 → (length left ≡ 0 → ⊥) → points_ending (read_points n state left) ≡ refused_with 42
+  bytes_after z e = rw z (past_end state left e)
+
+  pub not_cut : 0 < n → (k : ℕ) → Refused k ≡ field_of due.Point left → points_ending (read_points n state left) ≡ refused_with k
+  not_cut h k e = let less : n ≡ suc (n - 1) = omega arith in rw less (point_not_cut state left (n - 1) k (sym e))
+
+  module _ (h : 0 < n) (tag : ℕ) (value : List ℕ) (e : Value tag (length value) ≡ field_of due.Point left) (v : value ≡ value_in (length value) left) where
+    less : n ≡ suc (n - 1)
+    less = omega arith
+
+    pub not_added : ((add_of state tag value 6).refusal ≡ 0 → ⊥) → points_ending (read_points n state left) ≡ refused_with (add_of state tag value 6).refusal
+    not_added =
+        let P : List ℕ → Type 0 = λ y. ((add_of state tag y 6).refusal ≡ 0 → ⊥) → points_ending (read_points n state left) ≡ refused_with (add_of state tag y 6).refusal in
+        subst P (sym v) (λ w. rw less (point_refused state left (n - 1) tag (length value) (sym e) w))
+
+    pub was_added : (add_of state tag value 6).refusal ≡ 0
+        → points_ending (read_points n state left) ≡ points_ending (read_points (n - 1) (add_of state tag value 6).state (behind (length value) left))
+    was_added =
+        let P : List ℕ → Type 0 = λ y. (add_of state tag y 6).refusal ≡ 0
+        → points_ending (read_points n state left) ≡ points_ending (read_points (n - 1) (add_of state tag y 6).state (behind (length value) left)) in
+        subst P (sym v) (λ w. ap (λ (k : ℕ). points_ending (read_points k state left)) less ∙ point_taken state left (n - 1) tag (length value) (sym e) w)
+
+pub ruleset point_steps = (none_due, bytes_after, not_cut, not_added, was_added)
+
 -- ---- the whole book
 
 book_of_ending : (head calendar : List ℕ) (r : Reading Points) → book_ending (r >>= λ rest. good (book_of head calendar rest)) ≡ points_ending r
@@ -87,6 +110,37 @@ module _ (book : List ℕ) where
           rw (e, f, eq-eqb _ _ w)
           (book_of_ending (value_in size book) (value_in size₂ (behind size book)) (read_points opened.state.head.count opened.state (behind size₂ (behind size book))))
 
+-- ---- as the code goes: the head and the calendar are cut off, one behind the other, or not
+
+module _ (book : List ℕ) where
+  pub head_not_cut : (k : ℕ) → Refused k ≡ field_of due.Head book → book_ending (read_book book) ≡ refused_with k
+  head_not_cut k e = no_head_lem book k (sym e)
+
+  module _ (tag : ℕ) (head : List ℕ) (e : Value tag (length head) ≡ field_of due.Head book) (v : head ≡ value_in (length head) book)
+      (left : List ℕ) (b : left ≡ behind (length head) book) where
+    pub calendar_not_cut : (k : ℕ) → Refused k ≡ field_of due.Calendar left → book_ending (read_book book) ≡ refused_with k
+    calendar_not_cut k f = no_calendar book tag (length head) (sym e) k (ap (field_of due.Calendar) (sym b) ∙ sym f)
+
+    module _ (tag₂ : ℕ) (calendar : List ℕ) (f : Value tag₂ (length calendar) ≡ field_of due.Calendar left) (v₂ : calendar ≡ value_in (length calendar) left) where
+      calendar_is : field_of due.Calendar (behind (length head) book) ≡ Value tag₂ (length calendar)
+      calendar_is = ap (field_of due.Calendar) (sym b) ∙ sym f
+
+      same : open_of (value_in (length head) book) (value_in (length calendar) (behind (length head) book)) ≡ open_of head calendar
+      same = ap₂ open_of (sym v) (ap (value_in (length calendar)) (sym b) ∙ sym v₂)
+
+      pub opening_refused : ((open_of head calendar).refusal ≡ 0 → ⊥) → book_ending (read_book book) ≡ refused_with (open_of head calendar).refusal
+      opening_refused w =
+          not_opened book tag (length head) (sym e) tag₂ (length calendar) calendar_is (λ z. w (ap (λ o. o.refusal) (sym same) ∙ z))
+          ∙ ap (λ o. refused_with o.refusal) same
+
+      pub opening_taken : (open_of head calendar).refusal ≡ 0
+          → book_ending (read_book book) ≡ points_ending (read_points (open_of head calendar).state.head.count (open_of head calendar).state (behind (length calendar) left))
+      opening_taken w =
+          was_opened book tag (length head) (sym e) tag₂ (length calendar) calendar_is (ap (λ o. o.refusal) same ∙ w)
+          ∙ ap₂ (λ o rest. points_ending (read_points o.state.head.count o.state rest)) same (ap (behind (length calendar)) (sym b))
+
+pub ruleset book_steps = (head_not_cut, calendar_not_cut, opening_refused, opening_taken)
+
 -- ---- a closing that is accepted is that of a book that is read in full
 
 pub closed_reads : (book : List ℕ) → (closing_of book).refusal ≡ 0 → (r : Book) × (read_book book ≡ good r)
@@ -95,78 +149,6 @@ closed_reads book z = go (read_book book) refl (book_told book)
     go : (reading : Reading Book) → read_book book ≡ reading → Told reading → (r : Book) × (read_book book ≡ good r)
     go (refused n) e t = absurd (t (rw (e, ne_eqb n 0 t) at z))
     go (good r) e t = (r, e)
-
--- ---- over a book and a place in it, as the code cuts it
-
--- a value that begins three bytes behind a place
-abbrev pub part : List ℕ → ℕ → ℕ → List ℕ
-part book from size = take (from + size - from) (drop from book)
-
-module _ (book : List ℕ) (at size : ℕ) where
-  pub part_value : value_in size (drop at book) ≡ part book (at + 3) size
-  part_value = let e : at + 3 + size - (at + 3) ≡ size = omega arith in rw (e, drop-drop 3 at book)
-
-  pub part_behind : behind size (drop at book) ≡ drop (at + 3 + size) book
-  part_behind = let e : at + (3 + size) ≡ at + 3 + size = omega arith in drop-drop (3 + size) at book ∙ ap (λ (k : ℕ). drop k book) e
-
--- what a cut at a place says
-module _ (kind : Due) (book : List ℕ) (at : ℕ) (answer : Field) (e : answer ≡ field_of kind (take (length book - at) (drop at book))) where
-  pub cut_here : (other : Field) → answer ≡ other → field_of kind (drop at book) ≡ other
-  cut_here other f = ap (field_of kind) (sym (rest_of book at)) ∙ sym e ∙ f
-
-  pub cut_end : at ≤ length book → (tag size : ℕ) → answer ≡ Value tag size → at + 3 + size ≤ length book
-  cut_end h tag size f = omega (arith, cut_within kind (drop at book) tag size (cut_here (Value tag size) f), length-drop at book)
-
-module _ (n : ℕ) (state : State) (book : List ℕ) (at : ℕ) where
-  abbrev Ends : Ending → Type 0
-  Ends ending = points_ending (read_points n state (drop at book)) ≡ ending
-
-  pub not_cut : 0 < n → (k : ℕ) → field_of due.Point (drop at book) ≡ Refused k → Ends (refused_with k)
-  not_cut h k e = let less : n ≡ suc (n - 1) = omega arith in rw less (point_not_cut state (drop at book) (n - 1) k e)
-
-  module _ (h : 0 < n) (tag size : ℕ) (e : field_of due.Point (drop at book) ≡ Value tag size) where
-    abbrev added_here : Added
-    added_here = add_of state tag (part book (at + 3) size) 6
-
-    pub stopped : (added_here.refusal ≡ 0 → ⊥) → Ends (refused_with added_here.refusal)
-    stopped w =
-        let less : n ≡ suc (n - 1) = omega arith in
-        let v = part_value book at size in
-        rw less (point_refused state (drop at book) (n - 1) tag size e (rw v w) ∙ rw v refl)
-
-    pub went_on : added_here.refusal ≡ 0 → Ends (points_ending (read_points (n - 1) added_here.state (drop (at + 3 + size) book)))
-    went_on w =
-        let less : n ≡ suc (n - 1) = omega arith in
-        let v = part_value book at size in
-        ap (λ (k : ℕ). points_ending (read_points k state (drop at book))) less
-        ∙ point_taken state (drop at book) (n - 1) tag size e (rw v w) ∙ rw (v, part_behind book at size) refl
-
-  module _ (h : n ≤ 0) (k : at ≤ length book) where
-    pub bytes_behind : (at ≡ length book → ⊥) → Ends (refused_with 42)
-    bytes_behind w =
-        let none : n ≡ 0 = omega arith in
-        rw none (past_end state (drop at book) λ e. w (omega (arith, length-drop at book)))
-
-    pub all_read : at ≡ length book → Ends (record { refusal = 0; state = state })
-    all_read w =
-        let none : n ≡ 0 = omega arith in
-        rw none (at_end state (drop at book) (omega (arith, length-drop at book)))
-
--- the head and the calendar, cut where they stand
-module _ (book : List ℕ) (tag size : ℕ) (e : field_of due.Head book ≡ Value tag size) (tag₂ size₂ : ℕ)
-    (f : field_of due.Calendar (drop (3 + size) book) ≡ Value tag₂ size₂) where
-  abbrev opened_here : Opened
-  opened_here = open_of (part book 3 size) (part book (3 + size + 3) size₂)
-
-  same_opening : open_of (value_in size book) (value_in size₂ (behind size book)) ≡ opened_here
-  same_opening = let n : 3 + size - 3 ≡ size = omega arith in rw (n, part_value book (3 + size) size₂)
-
-  pub not_opened_here : (opened_here.refusal ≡ 0 → ⊥) → book_ending (read_book book) ≡ refused_with opened_here.refusal
-  not_opened_here w = not_opened book tag size e tag₂ size₂ f (rw same_opening w) ∙ rw same_opening
-
-  pub was_opened_here : opened_here.refusal ≡ 0
-      → book_ending (read_book book) ≡ points_ending (read_points opened_here.state.head.count opened_here.state (drop (3 + size + 3 + size₂) book))
-  was_opened_here w = was_opened book tag size e tag₂ size₂ f (rw same_opening w) ∙ rw (same_opening, part_behind book (3 + size) size₂)
 
 -- ---- the answer of the whole book and the lent bytes, in each case
 

@@ -4,11 +4,9 @@ use Rattle.numbers.specs.Slots.{window_slots}
 use Rattle.points.specs.Points.{Point}
 use Rattle.ledger.specs.Operations.{open_of, add_of}
 use Rattle.ledger.specs.declared.State.{State}
-use Rattle.fields.specs.Fields.{field_of, value_in, behind}
+use Rattle.fields.specs.Fields.{Field, Value, Refused, field_of, value_in, behind}
 use Rattle.fields.specs.declared.Due.{Due}
 use Rattle.fields.specs.declared.Due.TheVariants as due
-use Rattle.fields.specs.declared.Field.{Field}
-use Rattle.fields.specs.declared.Field.TheVariants.{Value, Refused}
 
 -- A refusal ends the reading; a good step hands something on.
 pub data Reading (A : Type 0) : Type 0 where

@@ -1,12 +1,12 @@
 // The whole book: reading it field by field, and the 64 result bytes.
-ghost use Rattle.std.specs.Prelude.{◌≡◌, cond, ◌^◌, ◌≤◌, ◌<◌, pos, length, get_or, drop};
+ghost use Rattle.std.specs.Prelude.{◌≡◌, cond, ◌^◌, ◌<◌, pos, length, get_or};
 ghost use Rattle.book.specs.Reading.{read_points, read_book};
 ghost use Rattle.book.specs.Endings.{refused_with, points_ending, book_ending, closed_after};
 ghost use Rattle.book.specs.Settling.{result_length, words_of, settling_refusal, settling_result};
 ghost use Rattle.book.specs.Results.{SmallWords, word_bytes};
 
 use crate::Ending;
-use fields::{Due, Field, HEADER_LENGTH, cutting};
+use fields::{Due, cutting};
 use figures::Figures;
 use ledger::{Closed, State};
 use numbers::WINDOW_SLOTS;
@@ -22,32 +22,26 @@ fn refused(refusal: u32) -> Ending
     Ending { refusal, state }
 }
 
-// As many points as the head says, from a place of the book to its end.
-fn read_points(opened: State, book: &[u8], start: usize) -> Ending
-    requires { start ≤ length book.now }
-    ensures { result ≡ points_ending (read_points opened.head.count opened (drop start book.now)) }
+// As many points as the head says, and nothing behind them. Document 01 names let .. else for the field answer.
+#[tactic(auto, using(crate::proofs::Endings::point_steps))]
+fn read_points(opened: State, book: &[u8]) -> Ending
+    ensures { result ≡ points_ending (read_points opened.head.count opened book.now) }
 {
-    let head = opened.head;
-    let mut due = head.count;
     let mut state = opened;
-    let mut at = start;
-    while 0 < due {
-        let field = cutting::cut(Due::Point, &book[at..]);
-        let Field::Value(tag, size) = field else {
-            return refused(cutting::refusal_of(field));
+    let mut left = book;
+    for _ in 0..opened.head.count {
+        let point = cutting::cut(Due::Point, left);
+        let Ok(point) = point else {
+            return refused(refusals::number_told(point));
         };
-        let from = at + HEADER_LENGTH;
-        let end = from + size;
         let mut places = [0i64; WINDOW_SLOTS];
-        let added = ledger::add(state, tag, &book[from..end], &mut places);
-        if added.refusal != refusals::ACCEPTED {
-            return refused(added.refusal);
+        match ledger::add(state, point.tag, point.value, &mut places) {
+            Ok(added) => state = added.state,
+            Err(refusal) => return refused(refusal.number()),
         }
-        state = added.state;
-        at = end;
-        due -= 1;
+        left = point.behind;
     }
-    if at != book.len() {
+    if !left.is_empty() {
         return refused(refusals::BYTES_AFTER);
     }
     Ending {
@@ -57,26 +51,22 @@ fn read_points(opened: State, book: &[u8], start: usize) -> Ending
 }
 
 // A whole book.
+#[tactic(auto, using(crate::proofs::Endings::book_steps))]
 fn read(book: &[u8]) -> Ending
     ensures { result ≡ book_ending (read_book book.now) }
 {
     let head = cutting::cut(Due::Head, book);
-    let Field::Value(_, head_size) = head else {
-        return refused(cutting::refusal_of(head));
+    let Ok(head) = head else {
+        return refused(refusals::number_told(head));
     };
-    let head_end = HEADER_LENGTH + head_size;
-    let calendar = cutting::cut(Due::Calendar, &book[head_end..]);
-    let Field::Value(_, calendar_size) = calendar else {
-        return refused(cutting::refusal_of(calendar));
+    let calendar = cutting::cut(Due::Calendar, head.behind);
+    let Ok(calendar) = calendar else {
+        return refused(refusals::number_told(calendar));
     };
-    let from = head_end + HEADER_LENGTH;
-    let end = from + calendar_size;
-    let opened = ledger::open(&book[HEADER_LENGTH..head_end], &book[from..end]);
-    if opened.refusal != refusals::ACCEPTED {
-        return refused(opened.refusal);
+    match ledger::open(head.value, calendar.value) {
+        Ok(state) => read_points(state, calendar.behind),
+        Err(refusal) => refused(refusal.number()),
     }
-    let state = opened.state;
-    read_points(state, book, end)
 }
 
 // The closing after a reading: the reading's refusal, or what closing answers.
@@ -91,8 +81,16 @@ pub fn close(ending: Ending) -> Closed
             figures,
         };
     }
-    let state = ending.state;
-    ledger::close(state)
+    match ledger::close(ending.state) {
+        Ok(figures) => Closed {
+            refusal: refusals::ACCEPTED,
+            figures,
+        },
+        Err(refusal) => Closed {
+            refusal: refusal.number(),
+            figures: figures::closing::no_figures(),
+        },
+    }
 }
 
 // A number without a sign as a signed word.

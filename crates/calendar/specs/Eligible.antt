@@ -1,8 +1,12 @@
 -- Eligible days (document 01, 'Days'). Day k back, k from 1 to 30, is k days before the test day, whose count is `test`.
-use Rattle.std.specs.Prelude.{Bool, not, ◌&&◌, List, [], ◌∷◌, ℕ, ◌-◌, leb, eqb, get_or}
+use Rattle.std.specs.Prelude.{◌≡◌, ◌<◌, Bool, not, ◌&&◌, List, [], ◌∷◌, ℕ, ◌-◌, leb, eqb, get_or, Result, MatchResult}
 use Rattle.numbers.specs.Lists.{run, filter, any}
 use Rattle.numbers.specs.Slots.{days_back}
 use Rattle.calendar.specs.Dates.{is_weekend}
+use Rattle.calendar.specs.declared.Mark.{Mark}
+use Rattle.calendar.specs.declared.Mark.TheVariants.{Unmarked, NationalHoliday, EarlierDispatch, EconomicDispatch}
+use Rattle.refusals.specs.declared.Refusal.{Refusal}
+use Rattle.refusals.specs.declared.Refusal.TheVariants as refusal
 
 -- 0 none; 1 national holiday; 2 earlier dispatch by the grid operator; 3 economic dispatch excluded on application
 abbrev pub no_mark : ℕ
@@ -13,6 +17,16 @@ most_mark = 3
 
 abbrev pub is_mark : ℕ → Bool
 is_mark mark = leb mark most_mark
+
+abbrev pub code_of : Mark → ℕ
+code_of Unmarked = no_mark
+code_of NationalHoliday = 1
+code_of EarlierDispatch = 2
+code_of EconomicDispatch = most_mark
+
+-- a byte is read as the mark with this number, or refused
+abbrev pub Decodes : ℕ → Result Mark Refusal → Type 0
+Decodes code answer = MatchResult answer (λ mark. code_of mark ≡ code) (λ e. (e ≡ refusal.Mark) × (most_mark < code))
 
 -- 8: 'a mark above 3'
 abbrev pub mark_row : List ℕ → List (Bool × ℕ)

@@ -1,202 +1,107 @@
-// The calls: each is read, made and answered by a line. Every function tells whether that was done; where it was not,
-// the fault was told.
-ghost use Rattle.std.specs.Prelude.{◌≡◌, length};
-
-use crate::parts::STATE_LENGTH;
-use crate::{faults, parts, text};
-use ledger::State;
+// The calls: each is read, made and answered by a line.
+use crate::faults::Fault;
+use crate::parts;
+use crate::text::{FiguresText, Lent, Spaced, StateText};
+use figures::Figures;
+use ledger::Added;
+use numbers::DAYS_USED;
+use std::fmt;
 use std::io::Read;
 
-// Most bytes of a part: a consumer's field has 5,978, and wrong lengths can be tried too.
+// Most bytes of a part: a consumer's field has 5,978, and wrong lengths can be tried too. There is no heap: each part is read into a room
+// of as many.
 const MOST_BYTES: usize = 6000;
 
-fn answer_opening(rt: &(impl Print + Eprint), head: &[u8], calendar: &[u8]) -> bool {
-    let opened = ledger::open(head, calendar);
-    let state = opened.state;
-    text::line(
+// Most places that are lent to an adding, and the bytes that say what they hold.
+const MOST_PLACES: usize = 8;
+
+const PLACES_LENGTH: usize = 64;
+
+// Prints an answer, which is a line.
+fn answer(rt: &impl Print, line: impl fmt::Display + Drop) -> Result<(), Fault> {
+    rt.println(line).map_err(|_| Fault::Unwritten)
+}
+
+pub fn opening<R: Read>(rt: &impl Print, source: &mut R) -> Result<(), Fault> {
+    let mut head_room = [0; MOST_BYTES];
+    let head = parts::read_part(source, &mut head_room)?;
+    let mut calendar_room = [0; MOST_BYTES];
+    let calendar = parts::read_part(source, &mut calendar_room)?;
+    let (refusal, state) = match ledger::open(head, calendar) {
+        Ok(state) => (0, state),
+        Err(refusal) => (refusal.number(), ledger::states::no_state()),
+    };
+    let state = StateText(state);
+    answer(rt, format_args!("opening {refusal} {state}"))
+}
+
+pub fn adding<R: Read>(rt: &impl Print, source: &mut R) -> Result<(), Fault> {
+    let state = parts::read_state(source)?;
+    let [tag, lent]: [u8; 2] = parts::read_array(source)?;
+    let count = usize::from(lent);
+    if MOST_PLACES < count {
+        return Err(Fault::Cut);
+    }
+    let mut bytes = [0; PLACES_LENGTH];
+    parts::read_bytes(source, &mut bytes[..count * 8])?;
+    let mut held: [i64; MOST_PLACES] = parts::signed_list(&bytes);
+    let places = &mut held[..count];
+    let mut room = [0; MOST_BYTES];
+    let value = parts::read_part(source, &mut room)?;
+    let (refusal, index, added) = match ledger::add(state, tag, value, places) {
+        Ok(added) => (0, 0, added),
+        Err(refusal) => (
+            refusal.number(),
+            refusal.index(),
+            Added {
+                state,
+                days: [0; DAYS_USED],
+            },
+        ),
+    };
+    let after = StateText(added.state);
+    let days = Spaced(&added.days);
+    let places = Spaced(places);
+    answer(
         rt,
-        text::number(rt, b"opening ", opened.refusal as u64) & text::state(rt, state),
+        format_args!("adding {refusal} index {index} {after} days{days} places{places}"),
     )
 }
 
-pub fn opening<R: Read>(rt: &(impl Print + Eprint), source: &mut R) -> bool {
-    let mut head = [0u8; MOST_BYTES];
-    let head_part = parts::read_part(rt, source, &mut head);
-    if !head_part.whole {
-        return false;
-    }
-    let mut calendar = [0u8; MOST_BYTES];
-    let calendar_part = parts::read_part(rt, source, &mut calendar);
-    if !calendar_part.whole {
-        return false;
-    }
-    let head_length = head_part.length;
-    let calendar_length = calendar_part.length;
-    answer_opening(rt, &head[0..head_length], &calendar[0..calendar_length])
+pub fn closing<R: Read>(rt: &impl Print, source: &mut R) -> Result<(), Fault> {
+    let (refusal, figures) = match ledger::close(parts::read_state(source)?) {
+        Ok(figures) => (0, figures),
+        Err(refusal) => (refusal.number(), Figures::default()),
+    };
+    let figures = FiguresText(figures);
+    answer(rt, format_args!("closing {refusal} {figures}"))
 }
 
-fn answer_adding(
-    rt: &(impl Print + Eprint),
-    state: State,
-    tag: u8,
-    value: &[u8],
-    places: &mut [i64],
-) -> bool {
-    let added = ledger::add(state, tag, value, places);
-    let after = added.state;
-    let days = added.days;
-    let refusal = text::with_index(rt, b"adding ", added.refusal, added.index);
-    let answer = refusal & text::state(rt, after) & text::days(rt, days);
-    text::line(rt, answer & text::signed_list(rt, b" places", places))
+pub fn writing_head<R: Read>(rt: &impl Print, source: &mut R) -> Result<(), Fault> {
+    let mut head_room = [0; MOST_BYTES];
+    let head = parts::read_part(source, &mut head_room)?;
+    let mut calendar_room = [0; MOST_BYTES];
+    let calendar = parts::read_part(source, &mut calendar_room)?;
+    let mut lent_room = [0; MOST_BYTES];
+    let lent = parts::read_part(source, &mut lent_room)?;
+    let refusal = refusals::number_told(writing::write_head(head, calendar, lent));
+    let lent = Lent(lent);
+    answer(rt, format_args!("writing head {refusal} {lent}"))
 }
 
-pub fn adding<R: Read>(rt: &(impl Print + Eprint), source: &mut R) -> bool {
-    let mut bytes = [0u8; STATE_LENGTH];
-    if !parts::read_bytes(rt, source, &mut bytes) {
-        return false;
-    }
-    let mut front = [0u8; 2];
-    if !parts::read_bytes(rt, source, &mut front) {
-        return false;
-    }
-    adding_to(rt, source, parts::state_of(&bytes), front[0], front[1])
-}
-
-// What the places hold before the call.
-fn places_of(bytes: [u8; 64]) -> [i64; 8]
-    ensures { length result ≡ 8 }
-{
-    let mut places = [0i64; 8];
-    parts::signed_list(&bytes, &mut places);
-    places
-}
-
-// The places stand behind the tag and their number.
-fn adding_to<R: Read>(
-    rt: &(impl Print + Eprint),
-    source: &mut R,
-    state: State,
-    tag: u8,
-    lent: u8,
-) -> bool {
-    let count = lent as usize;
-    if 8 < count {
-        return faults::cut(rt);
-    }
-    let mut bytes = [0u8; 64];
-    if !parts::read_bytes(rt, source, &mut bytes[0..count * 8]) {
-        return false;
-    }
-    let mut places = places_of(bytes);
-    adding_with(rt, source, state, tag, &mut places[0..count])
-}
-
-// The value stands last.
-fn adding_with<R: Read>(
-    rt: &(impl Print + Eprint),
-    source: &mut R,
-    state: State,
-    tag: u8,
-    places: &mut [i64],
-) -> bool {
-    let mut value = [0u8; MOST_BYTES];
-    let part = parts::read_part(rt, source, &mut value);
-    if !part.whole {
-        return false;
-    }
-    let size = part.length;
-    answer_adding(rt, state, tag, &value[0..size], places)
-}
-
-fn answer_closing(rt: &(impl Print + Eprint), state: State) -> bool {
-    let closed = ledger::close(state);
-    let figures = closed.figures;
-    text::line(
+pub fn writing_point<R: Read>(rt: &impl Print, source: &mut R) -> Result<(), Fault> {
+    let [tag]: [u8; 1] = parts::read_array(source)?;
+    let mut value_room = [0; MOST_BYTES];
+    let value = parts::read_part(source, &mut value_room)?;
+    let mut lent_room = [0; MOST_BYTES];
+    let lent = parts::read_part(source, &mut lent_room)?;
+    let (number, index) = match writing::write_point(tag, value, lent) {
+        Ok(()) => (0, 0),
+        Err(refusal) => (refusal.number(), refusal.index()),
+    };
+    let lent = Lent(lent);
+    answer(
         rt,
-        text::number(rt, b"closing ", closed.refusal as u64) & text::figures(rt, figures),
-    )
-}
-
-pub fn closing<R: Read>(rt: &(impl Print + Eprint), source: &mut R) -> bool {
-    let mut bytes = [0u8; STATE_LENGTH];
-    if !parts::read_bytes(rt, source, &mut bytes) {
-        return false;
-    }
-    answer_closing(rt, parts::state_of(&bytes))
-}
-
-fn answer_writing_head(
-    rt: &(impl Print + Eprint),
-    head: &[u8],
-    calendar: &[u8],
-    lent: &mut [u8],
-) -> bool {
-    let refusal = writing::write_head(head, calendar, lent);
-    text::line(
-        rt,
-        text::number(rt, b"writing head ", refusal as u64) & text::lent(rt, lent),
-    )
-}
-
-pub fn writing_head<R: Read>(rt: &(impl Print + Eprint), source: &mut R) -> bool {
-    let mut head = [0u8; MOST_BYTES];
-    let head_part = parts::read_part(rt, source, &mut head);
-    if !head_part.whole {
-        return false;
-    }
-    let mut calendar = [0u8; MOST_BYTES];
-    let calendar_part = parts::read_part(rt, source, &mut calendar);
-    if !calendar_part.whole {
-        return false;
-    }
-    let mut lent = [0u8; MOST_BYTES];
-    let lent_part = parts::read_part(rt, source, &mut lent);
-    if !lent_part.whole {
-        return false;
-    }
-    let head_length = head_part.length;
-    let calendar_length = calendar_part.length;
-    let lent_length = lent_part.length;
-    answer_writing_head(
-        rt,
-        &head[0..head_length],
-        &calendar[0..calendar_length],
-        &mut lent[0..lent_length],
-    )
-}
-
-fn answer_writing_point(
-    rt: &(impl Print + Eprint),
-    tag: u8,
-    value: &[u8],
-    lent: &mut [u8],
-) -> bool {
-    let answer = writing::write_point(tag, value, lent);
-    let refusal = text::with_index(rt, b"writing point ", answer.number, answer.index);
-    text::line(rt, refusal & text::lent(rt, lent))
-}
-
-pub fn writing_point<R: Read>(rt: &(impl Print + Eprint), source: &mut R) -> bool {
-    let mut tag = [0u8; 1];
-    if !parts::read_bytes(rt, source, &mut tag) {
-        return false;
-    }
-    let mut value = [0u8; MOST_BYTES];
-    let value_part = parts::read_part(rt, source, &mut value);
-    if !value_part.whole {
-        return false;
-    }
-    let mut lent = [0u8; MOST_BYTES];
-    let lent_part = parts::read_part(rt, source, &mut lent);
-    if !lent_part.whole {
-        return false;
-    }
-    let value_length = value_part.length;
-    let lent_length = lent_part.length;
-    answer_writing_point(
-        rt,
-        tag[0],
-        &value[0..value_length],
-        &mut lent[0..lent_length],
+        format_args!("writing point {number} index {index} {lent}"),
     )
 }

@@ -7,49 +7,67 @@ mod faults;
 mod parts;
 mod text;
 
+use faults::Fault;
 use std::io::Read;
 
-// The kinds of calls.
-const OPENING: u8 = 1;
+// The kinds of calls, by the numbers that docs/VECTORS.md gives them.
+enum Call {
+    Opening,
+    Adding,
+    Closing,
+    WritingHead,
+    WritingPoint,
+}
 
-const ADDING: u8 = 2;
+impl TryFrom<u8> for Call {
+    type Error = Fault;
 
-const CLOSING: u8 = 3;
+    fn try_from(kind: u8) -> Result<Call, Fault> {
+        match kind {
+            1 => Ok(Call::Opening),
+            2 => Ok(Call::Adding),
+            3 => Ok(Call::Closing),
+            4 => Ok(Call::WritingHead),
+            5 => Ok(Call::WritingPoint),
+            _ => Err(Fault::Cut),
+        }
+    }
+}
 
-const WRITING_HEAD: u8 = 4;
-
-const WRITING_POINT: u8 = 5;
-
-// One call: whether to go on.
-fn answer_call<R: Read>(rt: &(impl Print + Eprint), source: &mut R) -> bool {
+// The kind of the call that comes next; none where the input has ended.
+fn next_call<R: Read>(source: &mut R) -> Result<Option<Call>, Fault> {
     let mut kind = [0u8; 1];
-    let got = input::fill(source, &mut kind);
-    if got.failed {
-        return faults::unread(rt);
-    }
-    if got.count == 0 {
-        return false;
-    }
-    make_call(rt, source, kind[0])
-}
-
-// The call of a kind: whether it was read, made and answered; where not, the fault was told.
-fn make_call<R: Read>(rt: &(impl Print + Eprint), source: &mut R, kind: u8) -> bool {
-    match kind {
-        OPENING => calls::opening(rt, source),
-        ADDING => calls::adding(rt, source),
-        CLOSING => calls::closing(rt, source),
-        WRITING_HEAD => calls::writing_head(rt, source),
-        WRITING_POINT => calls::writing_point(rt, source),
-        _ => faults::cut(rt),
+    match input::fill(source, &mut kind) {
+        Ok(0) => Ok(None),
+        Ok(_) => Ok(Some(Call::try_from(kind[0])?)),
+        Err(_) => Err(Fault::Unread),
     }
 }
 
-// A proved loop has to end: it counts down from a number that no input uses up.
+// Reads the call behind its kind, makes it and answers it.
+fn answer_call<R: Read>(rt: &impl Print, source: &mut R, call: Call) -> Result<(), Fault> {
+    match call {
+        Call::Opening => calls::opening(rt, source),
+        Call::Adding => calls::adding(rt, source),
+        Call::Closing => calls::closing(rt, source),
+        Call::WritingHead => calls::writing_head(rt, source),
+        Call::WritingPoint => calls::writing_point(rt, source),
+    }
+}
+
+// A proved loop has to end: it goes on to a number that no input reaches.
+fn answer_calls<R: Read>(rt: &impl Print, source: &mut R) -> Result<(), Fault> {
+    for _ in 0..u64::MAX {
+        match next_call(source)? {
+            Some(call) => answer_call(rt, source, call)?,
+            None => break,
+        }
+    }
+    Ok(())
+}
+
 fn main(rt: HostRuntime) {
-    let mut source = rt.stdin();
-    let mut turns = u64::MAX;
-    while turns > 0 && answer_call(&rt, &mut source) {
-        turns -= 1;
+    if let Err(fault) = answer_calls(&rt, &mut rt.stdin()) {
+        let _ = rt.eprintln(fault);
     }
 }

@@ -1,16 +1,16 @@
 // The parts of a call, from standard input.
-ghost use Rattle.std.specs.Prelude.{◌≡◌, ◌*◌, ◌≤◌, length};
+ghost use Rattle.std.specs.Prelude.{◌≡◌, ◌*◌, ◌≤◌, IfOk, length};
 ghost use Rattle.numbers.specs.Lists.{run};
 ghost use Rattle.call_vectors.specs.Parts.{state_length, signed_in, head_in, state_in};
 
-use crate::faults;
+use crate::faults::Fault;
 use heads::Head;
 use ledger::State;
-use numbers::WINDOW_SLOTS;
+use std::array;
 use std::io::Read;
 
 // How many bytes a state has, and where the parts behind its head begin (specs/Parts).
-pub const STATE_LENGTH: usize = 123;
+const STATE_LENGTH: usize = 123;
 
 const MARKS_AT: usize = 19;
 
@@ -20,63 +20,44 @@ const TOTALS_AT: usize = 53;
 
 const LAST_AT: usize = 101;
 
-// A part with its length in front; a part that is not whole has no length.
-#[derive(Clone, Copy)]
-pub struct Part {
-    pub whole: bool,
-    pub length: usize,
-}
-
-// Fills the bytes in the middle of a call: whether as many were there; where not, the fault was told.
-pub fn read_bytes<R: Read>(rt: &impl Eprint, source: &mut R, bytes: &mut [u8]) -> bool
+// Fills the bytes in the middle of a call.
+pub fn read_bytes<R: Read>(source: &mut R, bytes: &mut [u8]) -> Result<(), Fault>
     ensures { length bytes.new ≡ length bytes.old }
 {
-    let got = input::fill(source, bytes);
-    if got.failed {
-        return faults::unread(rt);
+    let due = bytes.len();
+    match input::fill(source, bytes) {
+        Ok(count) if count == due => Ok(()),
+        Ok(_) => Err(Fault::Cut),
+        Err(_) => Err(Fault::Unread),
     }
-    if got.count < bytes.len() {
-        return faults::cut(rt);
-    }
-    true
+}
+
+// As many bytes as the array has.
+pub fn read_array<const N: usize, R: Read>(source: &mut R) -> Result<[u8; N], Fault> {
+    let mut bytes = [0; N];
+    read_bytes(source, &mut bytes)?;
+    Ok(bytes)
 }
 
 // A length of two bytes and as many bytes, which go to the front of the room; a part with no room is cut.
-pub fn read_part<R: Read>(rt: &impl Eprint, source: &mut R, room: &mut [u8]) -> Part
-    ensures { result.length ≤ length room.old }
+pub fn read_part<'a, R: Read>(source: &mut R, room: &'a mut [u8]) -> Result<&'a mut [u8], Fault>
+    ensures { IfOk result (λ part. length part.now ≤ length room.old) }
 {
-    let missing = Part {
-        whole: false,
-        length: 0,
-    };
-    let mut front = [0u8; 2];
-    if !read_bytes(rt, source, &mut front) {
-        return missing;
-    }
-    let length = numbers::big16(front[0], front[1]) as usize;
+    let length = usize::from(u16::from_be_bytes(read_array(source)?));
     if room.len() < length {
-        faults::cut(rt);
-        return missing;
+        return Err(Fault::Cut);
     }
-    if !read_bytes(rt, source, &mut room[0..length]) {
-        return missing;
-    }
-    Part {
-        whole: true,
-        length,
-    }
+    let part = &mut room[..length];
+    read_bytes(source, part)?;
+    Ok(part)
 }
 
-// Signed numbers of eight bytes each, as many as there are places.
-pub fn signed_list(bytes: &[u8], places: &mut [i64])
-    requires { length places.old * 8 ≤ length bytes.now }
-    ensures { places.new ≡ run (signed_in bytes.now) 0 (length places.old) }
+// Signed numbers of eight bytes each, as many as the array has.
+pub fn signed_list<const N: usize>(bytes: &[u8]) -> [i64; N]
+    requires { N * 8 ≤ length bytes.now }
+    ensures { result ≡ run (signed_in bytes.now) 0 N }
 {
-    let mut i: usize = 0;
-    while i < places.len() {
-        places[i] = integers::signed_word_at(bytes, i * 8);
-        i += 1;
-    }
+    array::from_fn(|i| integers::signed_word_at(bytes, i * 8))
 }
 
 // The head in a state's bytes; its count has four bytes.
@@ -93,10 +74,9 @@ pub fn state_of(bytes: &[u8]) -> State
     ensures { result ≡ state_in bytes.now }
 {
     let head = head_of(bytes);
-    let marks = heads::marks_of(&bytes[MARKS_AT..TAKEN_AT]);
+    let marks = numbers::array_of(&bytes[MARKS_AT..TAKEN_AT]);
     let points = numbers::word32_at(bytes, TAKEN_AT);
-    let mut totals = [0i64; WINDOW_SLOTS];
-    signed_list(&bytes[TOTALS_AT..LAST_AT], &mut totals);
+    let totals = signed_list(&bytes[TOTALS_AT..LAST_AT]);
     let last = points::number_of(&bytes[LAST_AT..STATE_LENGTH]);
     State {
         head,
@@ -105,4 +85,10 @@ pub fn state_of(bytes: &[u8]) -> State
         totals,
         last,
     }
+}
+
+// The state before a call.
+pub fn read_state<R: Read>(source: &mut R) -> Result<State, Fault> {
+    let bytes: [u8; STATE_LENGTH] = read_array(source)?;
+    Ok(state_of(&bytes))
 }

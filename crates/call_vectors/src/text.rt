@@ -1,128 +1,103 @@
-// The text of an answer. Each function tells whether all that it wrote was taken.
-use crate::faults;
+// The text of an answer's parts.
 use figures::Figures;
+use heads::Head;
 use ledger::State;
-use numbers::{DAYS_BACK, DAYS_USED, NUMBER_LENGTH, WINDOW_SLOTS};
+use std::fmt;
 
-fn put(rt: &impl Print, word: &[u8]) -> bool {
-    rt.write_all(word).is_ok()
-}
+// Bytes, two hexadecimal digits each.
+#[derive(Drop)]
+struct Hex<'a>(&'a [u8]);
 
-// Ends a line; where some of it was not written, the fault is told.
-pub fn line(rt: &(impl Print + Eprint), written: bool) -> bool {
-    if written & put(rt, b"\n") {
-        return true;
+impl fmt::Display for Hex<'_> {
+    fn fmt<W: fmt::Write>(&self, f: &mut fmt::Formatter<W>) -> fmt::Result {
+        for byte in self.0 {
+            write!(f, "{byte:02x}")?;
+        }
+        Ok(())
     }
-    faults::unwritten(rt)
 }
 
-// A name and an unsigned number.
-pub fn number(rt: &impl Print, name: &[u8], value: u64) -> bool {
-    put(rt, name) & rt.print(value).is_ok()
-}
+// Lent bytes: with none of them there is nothing behind the word.
+#[derive(Drop)]
+pub struct Lent<'a>(pub &'a [u8]);
 
-// A name, a refusal and the index of the reading that is told with it.
-pub fn with_index(rt: &impl Print, name: &[u8], refusal: u32, index: u32) -> bool {
-    number(rt, name, refusal as u64) & number(rt, b" index ", index as u64)
-}
-
-// A name and a signed number.
-fn signed(rt: &impl Print, name: &[u8], value: i64) -> bool {
-    let size = integers::size_of(value);
-    if value < 0 {
-        return put(rt, name) & number(rt, b"-", size);
+impl fmt::Display for Lent<'_> {
+    fn fmt<W: fmt::Write>(&self, f: &mut fmt::Formatter<W>) -> fmt::Result {
+        match self.0 {
+            [] => write!(f, "lent"),
+            bytes => write!(f, "lent {}", Hex(bytes)),
+        }
     }
-    number(rt, name, size)
 }
 
-fn wide(byte: u8) -> u64 {
-    byte as u64
-}
+// Numbers, with a space before each.
+#[derive(Drop)]
+pub struct Spaced<'a, T>(pub &'a [T]);
 
-// A name and bytes, two hexadecimal digits each.
-fn bytes(rt: &impl Print, name: &[u8], list: &[u8]) -> bool {
-    let mut written = put(rt, name);
-    for byte in list {
-        written &= print!(rt; "{:02x}", *byte).is_ok();
+impl<T: fmt::Display> fmt::Display for Spaced<'_, T> {
+    fn fmt<W: fmt::Write>(&self, f: &mut fmt::Formatter<W>) -> fmt::Result {
+        for number in self.0 {
+            write!(f, " {number}")?;
+        }
+        Ok(())
     }
-    written
-}
-
-// The lent bytes after a writing: with none of them the line ends with the word.
-pub fn lent(rt: &impl Print, list: &[u8]) -> bool {
-    if list.len() == 0 {
-        return put(rt, b" lent");
-    }
-    bytes(rt, b" lent ", list)
-}
-
-// A name and signed numbers.
-pub fn signed_list(rt: &impl Print, name: &[u8], list: &[i64]) -> bool {
-    let mut written = put(rt, name);
-    for value in list {
-        written &= signed(rt, b" ", *value);
-    }
-    written
-}
-
-// The arrays of a state, each lent by a function of its own, where its length is known.
-fn marks(rt: &impl Print, list: [u8; DAYS_BACK]) -> bool {
-    bytes(rt, b" marks ", &list)
-}
-
-fn totals(rt: &impl Print, list: [i64; WINDOW_SLOTS]) -> bool {
-    signed_list(rt, b" totals", &list)
-}
-
-fn last(rt: &impl Print, list: [u8; NUMBER_LENGTH]) -> bool {
-    bytes(rt, b" last ", &list)
-}
-
-// The four days that an adding tells.
-pub fn days(rt: &impl Print, list: [u8; DAYS_USED]) -> bool {
-    number(rt, b" days ", wide(list[0]))
-        & number(rt, b" ", wide(list[1]))
-        & number(rt, b" ", wide(list[2]))
-        & number(rt, b" ", wide(list[3]))
-}
-
-fn losses(rt: &impl Print, list: [u16; 3]) -> bool {
-    number(rt, b" losses ", list[0] as u64)
-        & number(rt, b" ", list[1] as u64)
-        & number(rt, b" ", list[2] as u64)
 }
 
 // Every field of a state.
-pub fn state(rt: &impl Print, given: State) -> bool {
-    let head = given.head;
-    let date = number(rt, b" year ", head.year as u64)
-        & number(rt, b" month ", head.month as u64)
-        & number(rt, b" day ", head.day as u64);
-    let slot = number(rt, b" slot ", head.slot as u64);
-    let loss_list = head.losses;
-    let terms = losses(rt, loss_list)
-        & number(rt, b" contract ", head.contract as u64)
-        & number(rt, b" count ", head.count as u64);
-    let mark_list = given.marks;
-    let calendar = marks(rt, mark_list);
-    let points = number(rt, b" points ", given.points as u64);
-    let total_list = ledger::states::slot_totals(given);
-    let slots = totals(rt, total_list);
-    let last_number = given.last;
-    date & slot & terms & calendar & points & slots & last(rt, last_number)
+#[derive(Drop)]
+pub struct StateText(pub State);
+
+impl fmt::Display for StateText {
+    fn fmt<W: fmt::Write>(&self, f: &mut fmt::Formatter<W>) -> fmt::Result {
+        let State {
+            head,
+            marks,
+            points,
+            last,
+            ..
+        } = self.0;
+        let Head {
+            year,
+            month,
+            day,
+            slot,
+            losses,
+            contract,
+            count,
+        } = head;
+        let losses = Spaced(losses.as_slice());
+        let marks = Hex(marks.as_slice());
+        let totals = ledger::states::slot_totals(self.0);
+        let totals = Spaced(totals.as_slice());
+        let last = Hex(last.as_slice());
+        write!(
+            f,
+            "year {year} month {month} day {day} slot {slot} losses{losses}"
+        )?;
+        write!(f, " contract {contract} count {count} marks {marks}")?;
+        write!(f, " points {points} totals{totals} last {last}")
+    }
 }
 
 // Every figure.
-pub fn figures(rt: &impl Print, given: Figures) -> bool {
-    let capacity = signed(rt, b" total ", given.total)
-        & signed(rt, b" settled ", given.settled)
-        & number(rt, b" shortfall ", given.shortfall);
-    let left = number(rt, b" expected ", given.expected)
-        & number(rt, b" kept ", given.kept)
-        & number(rt, b" surplus ", given.surplus);
-    let points = number(rt, b" points ", given.points as u64);
-    if given.bid {
-        return capacity & left & points & put(rt, b" bid yes");
+#[derive(Drop)]
+pub struct FiguresText(pub Figures);
+
+impl fmt::Display for FiguresText {
+    fn fmt<W: fmt::Write>(&self, f: &mut fmt::Formatter<W>) -> fmt::Result {
+        let Figures {
+            total,
+            settled,
+            shortfall,
+            expected,
+            kept,
+            surplus,
+            points,
+            bid,
+        } = self.0;
+        let bid = if bid { "yes" } else { "no" };
+        write!(f, "total {total} settled {settled} shortfall {shortfall}")?;
+        write!(f, " expected {expected} kept {kept} surplus {surplus}")?;
+        write!(f, " points {points} bid {bid}")
     }
-    capacity & left & points & put(rt, b" bid no")
 }

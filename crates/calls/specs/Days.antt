@@ -8,7 +8,7 @@ use Rattle.points.specs.Points.{consumer_tag}
 use Rattle.results.specs.SlotResults.{days_of, consumer_quotients_on, rounded}
 use Rattle.ledger.specs.Operations.{add_of, places_of}
 use Rattle.ledger.specs.declared.State.{State}
-use Rattle.ledger.specs.declared.Added.{Added}
+use Rattle.ledger.specs.Operations.{Added}
 
 -- of the answer to an adding of this tag and value to this state, and of the six results
 pub record TellsDays (state : State) (tag : ℕ) (value : List ℕ) (answer : Added) (six : List ℤ) : Type 0 where

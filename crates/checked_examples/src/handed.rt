@@ -1,134 +1,104 @@
 // The values that the examples hand on (document 01, 'The test book').
-ghost use Rattle.std.specs.Prelude.{◌≡◌, ◌+◌, ◌*◌, ◌≤◌, ◌<◌, length};
-ghost use Rattle.numbers.specs.PointNumbers.{number_length};
+ghost use Rattle.std.specs.Prelude.{◌≡◌, ◌*◌, ◌≤◌, ◌<◌, length};
 ghost use Rattle.readings.specs.Readings.{reading_count};
 ghost use Rattle.points.specs.Points.{consumer_length, generator_length, mixed_firing_length};
 
+use heads::HEAD_LENGTH;
 use ledger::State;
 use numbers::{DAYS_BACK, NUMBER_LENGTH, SLOTS_OF_DAY, WINDOW_SLOTS};
 use points::{
-    BASELINE_AT, CLASS_AT, CONSUMER_LENGTH, CONSUMER_READINGS_AT, GENERATOR_LENGTH,
-    GENERATOR_READINGS_AT, MIXED_FIRING_LENGTH, MIXED_FIRING_READINGS_AT, SHARE_AT,
+    BASELINE_AT, CLASS_AT, CONSUMER_READINGS_AT, GENERATOR_READINGS_AT, MIXED_FIRING_READINGS_AT,
+    SHARE_AT,
 };
+
+// The readings of a consumer: the test day's and those of the thirty days back.
+const CONSUMER_READINGS: usize = (DAYS_BACK + 1) * SLOTS_OF_DAY;
 
 // Where the readings of a mixed-firing plant inside the tariff begin.
 const INSIDE_AT: usize = 48;
 
 // A head of the year 2024: losses 700, 400 and 200, contract 1,000 kW.
-pub fn head(month: u8, day: u8, slot: u8, count: u16) -> [u8; 17]
+pub fn head(month: u8, day: u8, slot: u8, count: u16) -> [u8; HEAD_LENGTH]
     ensures { length result ≡ 17 }
 {
-    let points = numbers::length_bytes(count);
-    [
-        7, 232, month, day, slot, 2, 188, 1, 144, 0, 200, 0, 0, 3, 232, points[0], points[1],
-    ]
+    let mut head = [0; HEAD_LENGTH];
+    head[0..2].copy_from_slice(&2024u16.to_be_bytes());
+    head[2..5].copy_from_slice(&[month, day, slot]);
+    head[5..7].copy_from_slice(&700u16.to_be_bytes());
+    head[7..9].copy_from_slice(&400u16.to_be_bytes());
+    head[9..11].copy_from_slice(&200u16.to_be_bytes());
+    head[11..15].copy_from_slice(&1000u32.to_be_bytes());
+    head[15..17].copy_from_slice(&count.to_be_bytes());
+    head
 }
 
 // The state of a test on 2024-08-07, s 26, with one point due and the same mark on all thirty days.
 pub fn opened(mark: u8) -> State {
-    let head = head(8, 7, 26, 1);
-    let calendar = [mark; DAYS_BACK];
-    let opened = ledger::open(&head, &calendar);
-    let state = opened.state;
-    state
+    ledger::open(&head(8, 7, 26, 1), &[mark; DAYS_BACK]).unwrap_or(ledger::states::no_state())
 }
 
-// The point number 1111111111111111111111.
-fn put_number(value: &mut [u8])
-    requires { number_length ≤ length value.old }
+// The readings, of four bytes each, from the front of the part.
+fn put_readings(part: &mut [u8], readings: &[u32])
+    requires { length readings.now * 4 ≤ length part.old }
 {
-    let mut i: usize = 0;
-    while i < NUMBER_LENGTH {
-        value[i] = b'1';
-        i += 1;
+    for (i, reading) in readings.iter().enumerate() {
+        part[i * 4..i * 4 + 4].copy_from_slice(&reading.to_be_bytes());
     }
 }
 
-fn put_byte(value: &mut [u8], at: usize, byte: u8)
-    requires { at < length value.old }
-{
-    value[at] = byte;
-}
+// Values are put into lent bytes, so that one of a wrong length is refused where it is asked for.
 
-// Four bytes at a place, high byte first.
-fn put_word(value: &mut [u8], at: usize, word: u32)
-    requires { at + 4 ≤ length value.old }
-{
-    let bytes = integers::word_bytes(word as i64);
-    put_byte(value, at, bytes[4]);
-    put_byte(value, at + 1, bytes[5]);
-    put_byte(value, at + 2, bytes[6]);
-    put_byte(value, at + 3, bytes[7]);
-}
-
-// The same reading so many times, from the front of the part.
-fn put_readings(part: &mut [u8], count: usize, reading: u32)
-    requires { count * 4 ≤ length part.old }
-{
-    let mut i: usize = 0;
-    while i < count {
-        put_word(part, i * 4, reading);
-        i += 1;
-    }
-}
-
-// A high-voltage consumer: 1,200 in every slot of the test day and the thirty days back, except the
-// earlier slots 16 to 21 and the window slots 26 to 31 of the test day.
+// A high-voltage consumer with the number 1111111111111111111111, as have the other points: 1,200 in every slot of the test day and the
+// thirty days back, except the earlier slots 16 to 21 and the window slots 26 to 31 of the test day.
 pub fn put_consumer(value: &mut [u8], earlier: u32, used: u32)
     requires { length value.old ≡ consumer_length }
 {
-    put_number(value);
-    put_byte(value, CLASS_AT, 2);
+    value[..NUMBER_LENGTH].fill(b'1');
+    value[CLASS_AT] = 2;
     put_readings(
-        &mut value[CONSUMER_READINGS_AT..CONSUMER_LENGTH],
-        (DAYS_BACK + 1) * SLOTS_OF_DAY,
-        1200,
+        &mut value[CONSUMER_READINGS_AT..],
+        &[1200; CONSUMER_READINGS],
     );
-    put_readings(&mut value[87..111], WINDOW_SLOTS, earlier);
-    put_readings(&mut value[127..151], WINDOW_SLOTS, used);
+    put_readings(&mut value[87..111], &[earlier; WINDOW_SLOTS]);
+    put_readings(&mut value[127..151], &[used; WINDOW_SLOTS]);
 }
 
 // Other window readings of a consumer: 1,080 on day 2 back, 200 on day 6.
 pub fn put_low_days(value: &mut [u8])
     requires { length value.old ≡ consumer_length }
 {
-    put_readings(&mut value[511..535], WINDOW_SLOTS, 1080);
-    put_readings(&mut value[1279..1303], WINDOW_SLOTS, 200);
+    put_readings(&mut value[511..535], &[1080; WINDOW_SLOTS]);
+    put_readings(&mut value[1279..1303], &[200; WINDOW_SLOTS]);
 }
 
 // A consumer's reading one Wh above the limit.
 pub fn put_large(value: &mut [u8], index: usize)
     requires { (length value.old ≡ consumer_length) × (index < reading_count) }
 {
-    put_word(value, CONSUMER_READINGS_AT + index * 4, 1000000001);
+    let at = CONSUMER_READINGS_AT + index * 4;
+    put_readings(&mut value[at..at + 4], &[1000000001]);
 }
 
 // A generator: its baseline in kW, the first reading and the same reading in the five other slots.
 pub fn put_generator(value: &mut [u8], baseline: u32, first: u32, others: u32)
     requires { length value.old ≡ generator_length }
 {
-    put_number(value);
-    put_word(value, BASELINE_AT, baseline);
-    put_word(value, GENERATOR_READINGS_AT, first);
-    put_readings(&mut value[30..GENERATOR_LENGTH], 5, others);
+    value[..NUMBER_LENGTH].fill(b'1');
+    value[BASELINE_AT..GENERATOR_READINGS_AT].copy_from_slice(&baseline.to_be_bytes());
+    let mut readings = [others; WINDOW_SLOTS];
+    readings[0] = first;
+    put_readings(&mut value[GENERATOR_READINGS_AT..], &readings);
 }
 
 // A mixed-firing plant: its share in tenths of a percent, and the same readings in all six slots.
 pub fn put_mixed_firing(value: &mut [u8], share: u16, outside: u32, inside: u32)
     requires { length value.old ≡ mixed_firing_length }
 {
-    let bytes = numbers::length_bytes(share);
-    put_number(value);
-    put_byte(value, SHARE_AT, bytes[0]);
-    put_byte(value, SHARE_AT + 1, bytes[1]);
+    value[..NUMBER_LENGTH].fill(b'1');
+    value[SHARE_AT..MIXED_FIRING_READINGS_AT].copy_from_slice(&share.to_be_bytes());
     put_readings(
         &mut value[MIXED_FIRING_READINGS_AT..INSIDE_AT],
-        WINDOW_SLOTS,
-        outside,
+        &[outside; WINDOW_SLOTS],
     );
-    put_readings(
-        &mut value[INSIDE_AT..MIXED_FIRING_LENGTH],
-        WINDOW_SLOTS,
-        inside,
-    );
+    put_readings(&mut value[INSIDE_AT..], &[inside; WINDOW_SLOTS]);
 }

@@ -3,37 +3,37 @@
 ghost use Rattle.std.specs.Prelude.{◌<◌};
 ghost use Rattle.readings.specs.Readings.{reading_count};
 
-use crate::{handed, text};
+use crate::handed;
+use crate::text::{self, Due};
 use numbers::WINDOW_SLOTS;
-use points::{CONSUMER, CONSUMER_LENGTH};
+use points::{CONSUMER_LENGTH, Kind};
 
-// The refusal and the index of an adding, and those that are due.
-fn line(rt: &impl Print, value: &[u8], due: &[u8]) {
-    let mut places = [0i64; WINDOW_SLOTS];
-    let added = ledger::add(handed::opened(0), CONSUMER, value, &mut places);
-    text::refusal(rt, added.refusal);
-    text::index(rt, added.index);
-    text::by_hand(rt, due);
-}
-
-// With two readings above the limit, or one where both places are the same.
-fn with_large(rt: &impl Print, first: usize, second: usize, due: &[u8])
+// The refusal and the index of an adding with two readings above the limit, or one where both places are the same.
+fn with_large(rt: &impl Print, asked: &str, first: usize, second: usize, due: &str)
     requires { (first < reading_count) × (second < reading_count) }
 {
-    let mut value = [0u8; CONSUMER_LENGTH];
+    let mut value = [0; CONSUMER_LENGTH];
     handed::put_consumer(&mut value, 1200, 240);
     handed::put_large(&mut value, first);
     handed::put_large(&mut value, second);
-    line(rt, &value, due);
+    let mut places = [0; WINDOW_SLOTS];
+    let state = handed::opened(0);
+    let (refusal, index) = match ledger::add(state, Kind::Consumer as u8, &value, &mut places) {
+        Ok(_) => (0, 0),
+        Err(refusal) => (refusal.number(), refusal.index()),
+    };
+    let answer = format_args!("refusal {refusal} index {index}");
+    text::line(
+        rt,
+        format_args!("adding with {asked}"),
+        answer,
+        Due::ByHand(due),
+    );
 }
 
 pub fn examples(rt: &impl Print) {
-    text::put(rt, b"adding with reading 47 above the limit:");
-    with_large(rt, 47, 47, b"51 with 47");
-    text::put(rt, b"adding with reading 48:");
-    with_large(rt, 48, 48, b"52 with 48");
-    text::put(rt, b"adding with reading 1487:");
-    with_large(rt, 1487, 1487, b"52 with 1487");
-    text::put(rt, b"adding with readings 1487 and 47:");
-    with_large(rt, 1487, 47, b"51 with 47");
+    with_large(rt, "reading 47 above the limit", 47, 47, "51 with 47");
+    with_large(rt, "reading 48", 48, 48, "52 with 48");
+    with_large(rt, "reading 1487", 1487, 1487, "52 with 1487");
+    with_large(rt, "readings 1487 and 47", 1487, 47, "51 with 47");
 }

@@ -12,14 +12,19 @@ mod opening;
 mod plants;
 mod text;
 
+use text::Due;
+
 // A book of no bytes.
 fn empty_book(rt: &impl Print) {
     let book = [0u8; 1];
-    let mut result = [0u8; 64];
+    let mut result = [0; 64];
     let refusal = book::settling::settle(&book[0..0], &mut result);
-    text::put(rt, b"empty book:");
-    text::refusal(rt, refusal);
-    text::paper(rt, b"31");
+    text::line(
+        rt,
+        "empty book",
+        format_args!("refusal {refusal}"),
+        Due::Paper("31"),
+    );
 }
 
 fn main(rt: HostRuntime) {

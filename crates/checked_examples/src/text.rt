@@ -1,67 +1,30 @@
 // The text of an example's line.
-use numbers::DAYS_USED;
+use std::fmt;
 
-pub fn put(rt: &impl Print, word: &[u8]) {
-    let _ = rt.write_all(word);
+// The value that is due, with where it comes from.
+#[derive(Drop)]
+pub enum Due<'a> {
+    // What the paper says.
+    Paper(&'a str),
+    // What was worked out by the paper's rules or formula.
+    ByHand(&'a str),
 }
 
-pub fn number(rt: &impl Print, value: u64) {
-    let _ = rt.print(value);
-}
-
-pub fn signed(rt: &impl Print, value: i64) {
-    if value < 0 {
-        put(rt, b"-");
-    }
-    number(rt, integers::size_of(value));
-}
-
-// 0 is accepted.
-pub fn refusal(rt: &impl Print, value: u32) {
-    put(rt, b" refusal ");
-    number(rt, value as u64);
-}
-
-// That of the reading which is told.
-pub fn index(rt: &impl Print, value: u32) {
-    put(rt, b" index ");
-    number(rt, value as u64);
-}
-
-pub fn results(rt: &impl Print, list: &[i64]) {
-    for value in list {
-        put(rt, b" ");
-        signed(rt, *value);
+impl fmt::Display for Due<'_> {
+    fn fmt<W: fmt::Write>(&self, f: &mut fmt::Formatter<W>) -> fmt::Result {
+        match self {
+            Due::Paper(value) => write!(f, "(paper {value})"),
+            Due::ByHand(value) => write!(f, "(by hand {value})"),
+        }
     }
 }
 
-fn day(rt: &impl Print, back: u8) {
-    put(rt, b" ");
-    number(rt, back as u64);
-}
-
-pub fn days(rt: &impl Print, four: [u8; DAYS_USED]) {
-    day(rt, four[0]);
-    day(rt, four[1]);
-    day(rt, four[2]);
-    day(rt, four[3]);
-}
-
-// The value that is due, with where it comes from, ends the line.
-fn due(rt: &impl Print, source: &[u8], value: &[u8]) {
-    put(rt, b" (");
-    put(rt, source);
-    put(rt, b" ");
-    put(rt, value);
-    put(rt, b")\n");
-}
-
-// What the paper says.
-pub fn paper(rt: &impl Print, value: &[u8]) {
-    due(rt, b"paper", value);
-}
-
-// What was worked out by the paper's formula.
-pub fn by_hand(rt: &impl Print, value: &[u8]) {
-    due(rt, b"by hand", value);
+// What was asked, what was answered, and what is due.
+pub fn line(
+    rt: &impl Print,
+    asked: impl fmt::Display + Drop,
+    answer: impl fmt::Display + Drop,
+    due: Due<'_>,
+) {
+    let _ = println!(rt; "{asked}: {answer} {due}");
 }

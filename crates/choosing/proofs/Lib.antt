@@ -1,8 +1,8 @@
 pub mod SomeOf
 pub mod Rising
 pub mod Flags
-pub mod Keeping
 pub mod Rounds
+pub mod InHand
 pub mod Walking
+pub mod Reduced
 pub mod Lowest
-pub mod Choices

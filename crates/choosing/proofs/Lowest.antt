@@ -1,38 +1,23 @@
 -- The lowest of five days goes. Assumes nothing.
-use mathlib.Core.Path.{◌≡◌, refl, ap}
-use mathlib.Core.Bool.{Bool, true, false, cond}
+use mathlib.Core.Path.{◌≡◌, refl, sym, ◌∙◌}
+use mathlib.Core.Bool.{Bool, true, false, cond, not}
 use mathlib.Core.List.{List, [], ◌∷◌}
-use Prim.Native.Nat.{ℕ, suc, ◌+◌, ◌<◌, ◌≤◌}
-use native.Mathlib.Numerals.{add-one}
+use Prim.Native.Nat.{ℕ, suc, ◌≤◌}
 use native.Mathlib.Omega.{arith}
 use lib.Dec.{leb, eqb}
-use lib.ListN.{length, get_or, drop, drop_of_length-le}
-use lib.Seq.{drop-cons}
-use borrow.Author.Tests.{le-leb, lt-leb, eq-eqb, ne_eqb, eqb-true, eqb-false}
+use lib.ListN.{length, get_or, drop}
+use borrow.Author.Tests.{eq-eqb, ne_eqb, eqb-true, eqb-false}
+use Rattle.std.specs.List as list
 use Rattle.numbers.specs.Slots.{days_used}
 use Rattle.choosing.specs.Choosing.{round_days, standing, lowest, used, chosen}
-use Rattle.choosing.specs.Days.{Rising}
+use Rattle.choosing.specs.Days.{Rising, InHand}
+use Rattle.choosing.specs.declared.candidates.Candidate.{Candidate}
+use Rattle.choosing.proofs.InHand.{as_many, some_in_hand}
 use Rattle.choosing.proofs.SomeOf.{stop, Few, some_all, some_some, some_filter, In, here, there}
 use Rattle.choosing.proofs.Rising.{some_rising, without, without_length}
 use Rattle.choosing.proofs.Rounds.{standing_few}
 
 module _ (w : ℕ → ℕ) where
-  lowest_next : (low k : ℕ) (days : List ℕ) (t : Bool) → leb (w k) (w low) ≡ t → lowest w low (k ∷ days) ≡ lowest w (cond t k low) days
-  unfolding lowest
-  lowest_next low k days t e = ap (λ b. lowest w (cond b k low) days) e
-
-  -- one day more
-  module _ (low : ℕ) (days : List ℕ) (i : ℕ) where
-    pub lower : i < length days → w (get_or days i 0) ≤ w low → lowest w low (drop i days) ≡ lowest w (get_or days i 0) (drop (i + 1) days)
-    lower h l = rw (add-one, drop-cons days i 0) (lowest_next low (get_or days i 0) (drop (suc i) days) true (le-leb _ _ l))
-
-    pub not_lower : i < length days → w low < w (get_or days i 0) → lowest w low (drop i days) ≡ lowest w low (drop (i + 1) days)
-    not_lower h l = rw (add-one, drop-cons days i 0) (lowest_next low (get_or days i 0) (drop (suc i) days) false (lt-leb _ _ l))
-
-    pub lowest_end : length days ≤ i → lowest w low (drop i days) ≡ low
-    unfolding lowest
-    lowest_end h = rw (drop_of_length-le days h)
-
   lowest_in : (low : ℕ) (days : List ℕ) → In (lowest w low days) (low ∷ days)
   unfolding lowest
   lowest_in low [] = here
@@ -80,3 +65,15 @@ module _ (w : ℕ → ℕ) where
       let stood = standing_few w days in
       let few = used_few (standing w days) stood.0 (some_rising stood.1 r) in
       (few.0, some_some stood.1 few.1)
+
+-- what is in hand, before and after
+module _ {w : ℕ → ℕ} {days : List ℕ} {candidates : List Candidate} (hand : InHand w days candidates) where
+  pub five_in_hand : {left : List Candidate} {low : ℕ} → length candidates ≡ 5 → low ≡ lowest w (get_or days 0 0) (drop 1 days)
+      → left ≡ list.filter (λ day. not (eqb day.back low)) candidates → InHand w (used w days) left
+  five_in_hand {low = low} full lowest_is kept =
+      let others = some_in_hand w (λ other. not (eqb other low)) (λ day. not (eqb day.back low)) (λ day e. refl) in
+      let left = rw hand.backs at (others candidates (hand.sums ∙ rw hand.backs)) in
+      rw (used_five w days (sym (as_many hand) ∙ full), ← lowest_is, kept) left
+
+  pub fewer_in_hand : (length candidates ≡ 5 → ⊥) → InHand w (used w days) candidates
+  fewer_in_hand fewer = rw (used_fewer w days (λ e. fewer (as_many hand ∙ e))) hand

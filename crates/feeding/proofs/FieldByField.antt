@@ -17,12 +17,12 @@ use Rattle.ledger.specs.declared.State.{State}
 use Rattle.heads.proofs.Opening.{opening_content, opens}
 use Rattle.ledger.proofs.Sound.{open_refusal, open_good, add_refusal, add_good}
 use Rattle.fields.specs.Fields.{tag_at, length_due, field_of, value_in, behind, header_refusal}
+use Rattle.fields.specs.Fields as field
 use Rattle.book.specs.Reading.{read_points, read_book}
 use Rattle.book.specs.Endings.{refused_with, points_ending, book_ending}
 use Rattle.fields.specs.declared.Due.{Due}
 use Rattle.fields.specs.declared.Due.TheVariants.{Head, Calendar, Point}
 use Rattle.book.specs.declared.Ending.{Ending}
-use Rattle.fields.specs.declared.Field.TheVariants as field
 use Rattle.fields.proofs.Headers.{header_shows}
 use Rattle.fields.proofs.Answers.{Answer, no_header, no_value, whole, answer}
 use Rattle.book.proofs.Endings.{at_end, past_end, point_not_cut, point_refused, point_taken, no_head_lem, no_calendar, not_opened, was_opened}

@@ -80,13 +80,11 @@ pub fn start() -> Progress
 fn refused_at(refusal: u32, progress: Progress) -> Progress
     ensures { result ≡ refused_at refusal progress }
 {
-    let head = progress.head;
-    let state = ledger::states::no_state();
     Progress {
         wait: Wait::Nothing,
-        head,
-        state,
+        state: ledger::states::no_state(),
         refusal,
+        ..progress
     }
 }
 
@@ -108,81 +106,60 @@ fn go_on(refusal: u32, state: State, progress: Progress) -> Progress
     if refusal != refusals::ACCEPTED {
         return refused_at(refusal, progress);
     }
-    let opened = state.head;
-    let wait = point_or_end(state.points, opened.count);
-    let head = progress.head;
     Progress {
-        wait,
-        head,
+        wait: point_or_end(state.points, state.head.count),
         state,
         refusal: refusals::ACCEPTED,
+        ..progress
     }
 }
 
+#[tactic(auto, using(refusals::proofs::Refused::refused), unfolding(crate::specs::Feeding::header_fed))]
 fn feed_header(kind: Due, progress: Progress, bytes: &[u8]) -> Progress
     ensures { result ≡ header_fed kind progress bytes.now }
 {
-    let refusal = fields::cutting::header_refusal(kind, bytes);
-    if refusal != refusals::ACCEPTED {
-        return refused_at(refusal, progress);
-    }
-    let head = progress.head;
-    let state = progress.state;
-    Progress {
-        wait: Wait::Value(kind, bytes[0]),
-        head,
-        state,
-        refusal: refusals::ACCEPTED,
+    match fields::cutting::header_tag(kind, bytes) {
+        Ok(tag) => Progress {
+            wait: Wait::Value(kind, tag),
+            refusal: refusals::ACCEPTED,
+            ..progress
+        },
+        Err(refusal) => refused_at(refusal.number(), progress),
     }
 }
 
-// The bytes of a head, kept until the calendar comes.
-fn kept_head(value: &[u8]) -> [u8; HEAD_LENGTH]
-    requires { length value.now ≡ head_length }
-    ensures { result ≡ value.now }
-{
-    let mut head = [0u8; HEAD_LENGTH];
-    let mut i: usize = 0;
-    while i < HEAD_LENGTH {
-        head[i] = value[i];
-        i += 1;
-    }
-    head
-}
-
+// The bytes of a head are kept until the calendar comes.
 fn got_head(progress: Progress, value: &[u8]) -> Progress
     requires { length value.now ≡ head_length }
     ensures { result ≡ got Head head_tag progress value.now }
 {
-    let head = kept_head(value);
-    let state = progress.state;
     Progress {
         wait: Wait::Header(Due::Calendar),
-        head,
-        state,
+        head: numbers::array_of(value),
         refusal: refusals::ACCEPTED,
+        ..progress
     }
 }
 
+#[tactic(auto, using(refusals::proofs::Refused::refused))]
 fn got_calendar(progress: Progress, value: &[u8]) -> Progress
     ensures { result ≡ got Calendar calendar_tag progress value.now }
 {
-    let head = progress.head;
-    let opened = ledger::open(&head, value);
-    let refusal = opened.refusal;
-    let state = opened.state;
-    go_on(refusal, state, progress)
+    match ledger::open(&progress.head, value) {
+        Ok(state) => go_on(refusals::ACCEPTED, state, progress),
+        Err(refusal) => refused_at(refusal.number(), progress),
+    }
 }
 
+#[tactic(auto, using(refusals::proofs::Refused::refused))]
 fn got_point(tag: u8, progress: Progress, value: &[u8]) -> Progress
     ensures { result ≡ got Point tag progress value.now }
 {
-    let before = progress.state;
     let mut places = [0i64; WINDOW_SLOTS];
-    let added = ledger::add(before, tag, value, &mut places);
-    let refusal = added.refusal;
-    let state = added.state;
-    go_on(refusal, state, progress)
+    match ledger::add(progress.state, tag, value, &mut places) {
+        Ok(added) => go_on(refusals::ACCEPTED, added.state, progress),
+        Err(refusal) => refused_at(refusal.number(), progress),
+    }
 }
 
 fn feed_value(kind: Due, tag: u8, progress: Progress, bytes: &[u8]) -> Progress
@@ -206,13 +183,10 @@ fn feed_end(progress: Progress, bytes: &[u8]) -> Progress
     if bytes.len() != 0 {
         return refused_at(refusals::BYTES_AFTER, progress);
     }
-    let head = progress.head;
-    let state = progress.state;
     Progress {
         wait: Wait::Nothing,
-        head,
-        state,
         refusal: refusals::ACCEPTED,
+        ..progress
     }
 }
 

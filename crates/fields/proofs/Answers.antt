@@ -4,15 +4,13 @@ use mathlib.Core.Bool.{Bool, true, false}
 use mathlib.Core.List.{List}
 use Prim.Native.Nat.{ℕ, ◌+◌, ◌≤◌, ◌<◌}
 use native.Mathlib.Decide.{ℕ_discrete}
-use native.Mathlib.Omega.{arith}
 use borrow.Author.Tests.{ltb-true, ltb-false, lt-ltb, le-ltb, ne_eqb}
 use lib.Dec.{ltb}
 use lib.ListN.{length}
 use Rattle.numbers.proofs.Refusals.{told, passed}
-use Rattle.fields.specs.Fields.{tag_at, length_due, header_tests, header_refusal, cut_row, field_refusal, field_of}
+use Rattle.fields.specs.Fields.{tag_at, length_due, header_tests, header_refusal, cut_row, field_refusal, Value, Refused, field_of}
 use Rattle.fields.specs.declared.Due.{Due}
-use Rattle.fields.specs.declared.Field.TheVariants.{Value, Refused}
-use Rattle.fields.proofs.Headers.{numbered_header}
+use Rattle.fields.proofs.Headers.{numbered_header, header_long}
 
 module _ (due : Due) (left : List ℕ) where
   abbrev size : ℕ
@@ -57,11 +55,5 @@ module _ (due : Due) (left : List ℕ) where
       go (yes e) true p = let h = ltb-true _ _ p in no_value e h (field_cut e h)
       go (yes e) false p = let h = ltb-false _ _ p in whole e h (field_good e h)
 
-  -- a value that is cut out lies in what is left
-  pub cut_within : (tag n : ℕ) → field_of due left ≡ Value tag n → 3 + n ≤ length left
-  cut_within tag n e = go answer
-    where
-      go : Answer → 3 + n ≤ length left
-      go (no_header m f) = let z : ◌≡◌ {A = ℕ} 0 1 = cc in absurd (omega arith)
-      go (no_value m h f) = let z : ◌≡◌ {A = ℕ} 0 1 = cc in absurd (omega arith)
-      go (whole m h f) = let k : size ≡ n = cc in omega arith
+-- for `using` at a function that cuts a field off
+pub ruleset answers = (header_long, field_refused, field_cut, field_good)

@@ -1,6 +1,6 @@
 -- A field's header: what its tests tell, and what one that is not refused shows. Assumes nothing.
-use mathlib.Core.Path.{◌≡◌, refl}
-use mathlib.Core.Bool.{Bool, true, false, cond, not, ◌&&◌, and-false}
+use mathlib.Core.Path.{◌≡◌}
+use mathlib.Core.Bool.{true, false, ◌&&◌, and-false}
 use mathlib.Core.List.{List}
 use Prim.Native.Nat.{ℕ, ◌≤◌}
 use native.Mathlib.Omega.{arith}
@@ -8,11 +8,10 @@ use borrow.Author.Tests.{ltb-false, eqb-true, not-false, le-ltb, eq-eqb, ne_eqb}
 use lib.Dec.{T, eqb}
 use lib.ListN.{length}
 use Rattle.numbers.specs.Words.{word16}
-use Rattle.numbers.specs.Refusals.{first_told}
 use Rattle.numbers.proofs.Refusals.{numbered, clear}
-use Rattle.points.specs.Points.{consumer_length, kind_of, is_unknown, tag_row}
+use Rattle.points.specs.Points.{consumer_length, kind_of}
 use Rattle.points.proofs.PointKinds.{kind_small}
-use Rattle.fields.specs.Fields.{header_length, length_at, tag_at, is_tag, is_point, length_due, due_tag_row, header_tests, header_refusal}
+use Rattle.fields.specs.Fields.{header_length, length_at, tag_at, is_tag, is_point, length_due, header_tests, header_refusal}
 use Rattle.fields.specs.declared.Due.{Due}
 use Rattle.fields.specs.declared.Due.TheVariants.{Head, Calendar, Point}
 
@@ -26,19 +25,6 @@ length_small Point tag = kind_small (kind_of tag)
 
 pub some_bytes : (due : Due) (n : ℕ) → (n ≡ 0 → ⊥) → (is_point due && eqb n 0) ≡ false
 some_bytes due n h = rw (ne_eqb n 0 h) (and-false (is_point due))
-
--- where a point is due, its tag is tested as adding does
-pub point_tag : (tag : ℕ) → first_told (tag_row tag) ≡ first_told (due_tag_row Point tag)
-point_tag tag = go (is_unknown (kind_of tag))
-  where
-    go : (b : Bool) → cond {A = ℕ} b 11 0 ≡ cond (not (not b)) 11 0
-    go true = refl
-    go false = refl
-
-pub numbered_tag : (due : Due) (tag : ℕ) → T (numbered (due_tag_row due tag))
-numbered_tag Head tag = tt
-numbered_tag Calendar tag = tt
-numbered_tag Point tag = tt
 
 pub header_good : (due : Due) (left : List ℕ) → header_length ≤ length left → is_tag due (tag_at left) ≡ true
     → word16 left length_at ≡ length_due due (tag_at left) → header_refusal due left ≡ 0
@@ -62,3 +48,6 @@ unfolding header_refusal
 header_shows due left e =
     let c = clear (header_tests due left) (numbered_header due left) e in
     record { long = ltb-false _ _ c.1.0; tag = not-false _ c.1.1.0; size = eqb-true _ _ (not-false _ c.1.1.1.0) }
+
+pub header_long : (due : Due) (left : List ℕ) → header_refusal due left ≡ 0 → header_length ≤ length left
+header_long due left e = (header_shows due left e).long

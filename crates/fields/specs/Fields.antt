@@ -6,8 +6,6 @@ use Rattle.heads.specs.Heads.{head_tag, head_length, calendar_tag, calendar_leng
 use Rattle.points.specs.Points.{kind_of, is_unknown, size_of}
 use Rattle.fields.specs.declared.Due.{Due}
 use Rattle.fields.specs.declared.Due.TheVariants.{Head, Calendar, Point}
-use Rattle.fields.specs.declared.Field.{Field}
-use Rattle.fields.specs.declared.Field.TheVariants.{Value, Refused}
 
 -- a field's header: tag and length
 abbrev pub header_length : ℕ
@@ -65,6 +63,11 @@ field_tests due left = header_tests due left ++ cut_row due left
 
 unfoldable pub field_refusal : Due → List ℕ → ℕ
 field_refusal due left = first_told (field_tests due left)
+
+-- the field answer: the tag and the length of the value, or the refusal that ends the reading
+pub data Field : Type 0 where
+  Value : ℕ → ℕ → Field
+  Refused : ℕ → Field
 
 -- THE FIELD ANSWER
 unfoldable pub field_of : Due → List ℕ → Field

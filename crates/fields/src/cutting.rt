@@ -1,25 +1,18 @@
 // Cutting a field off the front of what is left of the book.
-ghost use Rattle.std.specs.Prelude.{◌≡◌, ◌≤◌};
+ghost use Rattle.std.specs.Prelude.{◌≡◌, ◌≤◌, IfOk, length};
+ghost use Rattle.refusals.specs.Told.{number_told};
 ghost use Rattle.numbers.specs.Refusals.{first_told};
 ghost use Rattle.points.specs.Points.{consumer_length};
 ghost use Rattle.fields.specs.Fields.{length_due, short_rows, due_tag_row, due_length_row};
-ghost use Rattle.fields.specs.Fields.{header_refusal, field_of, refusal_of};
-ghost use Rattle.fields.specs.declared.Due.TheVariants.{Head, Calendar};
+ghost use Rattle.fields.specs.Fields.{tag_at, header_refusal, field_of, value_in, behind};
+ghost use Rattle.fields.specs.Told.{field_told};
 
-use crate::{Due, Field, HEADER_LENGTH};
+use crate::{Cut, Due, HEADER_LENGTH};
+use points::Kind;
+use refusals::Refusal;
 
 // Where a header's length begins.
 const LENGTH_AT: usize = 1;
-
-// The number of a field answer.
-pub fn refusal_of(field: Field) -> u32
-    ensures { result ≡ refusal_of field }
-{
-    match field {
-        Field::Value(_, _) => refusals::ACCEPTED,
-        Field::Refused(refusal) => refusal,
-    }
-}
 
 // The length that a value must have.
 pub fn length_due(due: Due, tag: u8) -> usize
@@ -34,95 +27,66 @@ pub fn length_due(due: Due, tag: u8) -> usize
 }
 
 // Under three bytes left; none where a point is due is a count that is not reached.
-fn short_refusal(due: Due, left: usize) -> u32
-    ensures { result ≡ first_told (short_rows due left) }
+fn short_refusal(due: Due, left: usize) -> Result<(), Refusal>
+    ensures { number_told result ≡ first_told (short_rows due left) }
 {
     if HEADER_LENGTH <= left {
-        return refusals::ACCEPTED;
-    }
-    if left != 0 {
-        return refusals::BOOK_CUT;
+        return Ok(());
     }
     match due {
-        Due::Head => refusals::BOOK_CUT,
-        Due::Calendar => refusals::BOOK_CUT,
-        Due::Point => refusals::COUNT_NOT_REACHED,
-    }
-}
-
-// A tag that may not stand where a head is due.
-fn head_tag_refusal(tag: u8) -> u32
-    ensures { result ≡ first_told (due_tag_row Head tag) }
-{
-    match tag {
-        heads::HEAD_TAG => refusals::ACCEPTED,
-        _ => refusals::WRONG_TAG,
-    }
-}
-
-// A tag that may not stand where a calendar is due.
-fn calendar_tag_refusal(tag: u8) -> u32
-    ensures { result ≡ first_told (due_tag_row Calendar tag) }
-{
-    match tag {
-        heads::CALENDAR_TAG => refusals::ACCEPTED,
-        _ => refusals::WRONG_TAG,
+        Due::Point if left == 0 => Err(Refusal::CountNotReached),
+        _ => Err(Refusal::BookCut),
     }
 }
 
 // A tag that may not stand where a field is due.
-fn tag_refusal(due: Due, tag: u8) -> u32
-    ensures { result ≡ first_told (due_tag_row due tag) }
+fn tag_refusal(due: Due, tag: u8) -> Result<(), Refusal>
+    ensures { number_told result ≡ first_told (due_tag_row due tag) }
 {
-    match due {
-        Due::Head => head_tag_refusal(tag),
-        Due::Calendar => calendar_tag_refusal(tag),
-        Due::Point => points::tag_refusal(tag),
+    match (due, tag) {
+        (Due::Head, heads::HEAD_TAG) => Ok(()),
+        (Due::Calendar, heads::CALENDAR_TAG) => Ok(()),
+        (Due::Point, _) => Kind::try_from(tag).map(|_| ()),
+        _ => Err(Refusal::WrongTag),
     }
 }
 
 // A length that is not the one due.
-fn length_refusal(due: Due, tag: u8, size: usize) -> u32
-    ensures { result ≡ first_told (due_length_row due tag size) }
+fn length_refusal(due: Due, tag: u8, size: usize) -> Result<(), Refusal>
+    ensures { number_told result ≡ first_told (due_length_row due tag size) }
 {
     if size == length_due(due, tag) {
-        return refusals::ACCEPTED;
+        return Ok(());
     }
     match due {
-        Due::Head => refusals::LENGTHS,
-        Due::Calendar => refusals::LENGTHS,
-        Due::Point => refusals::POINT_LENGTH,
+        Due::Head | Due::Calendar => Err(Refusal::Lengths),
+        Due::Point => Err(Refusal::PointLength),
     }
 }
 
-// What ends the reading at a header: 20, 31, 41 or 11, 1 or 12.
-pub fn header_refusal(due: Due, left: &[u8]) -> u32
-    ensures { result ≡ header_refusal due left.now }
+// The tag of a header, or what ends the reading at it: 20, 31, 41 or 11, 1 or 12.
+#[tactic(auto, using(refusals::proofs::Exits::exits), unfolding(crate::specs::Fields::header_refusal))]
+pub fn header_tag(due: Due, left: &[u8]) -> Result<u8, Refusal>
+    ensures refusal { number_told result ≡ header_refusal due left.now }
+    ensures tag { IfOk result (λ tag. tag ≡ tag_at left.now) }
 {
-    let short = short_refusal(due, left.len());
-    if short != refusals::ACCEPTED {
-        return short;
-    }
+    short_refusal(due, left.len())?;
     let tag = left[0];
-    let wrong = tag_refusal(due, tag);
-    if wrong != refusals::ACCEPTED {
-        return wrong;
-    }
-    length_refusal(due, tag, numbers::word16_at(left, LENGTH_AT) as usize)
+    tag_refusal(due, tag)?;
+    length_refusal(due, tag, numbers::word16_at(left, LENGTH_AT) as usize)?;
+    Ok(tag)
 }
 
 // The field answer.
-pub fn cut(due: Due, left: &[u8]) -> Field
-    ensures { result ≡ field_of due left.now }
+#[tactic(auto, using(refusals::proofs::Exits::exits, crate::proofs::Answers::answers))]
+pub fn cut(due: Due, left: &[u8]) -> Result<Cut<'_>, Refusal>
+    ensures answer { field_told result ≡ field_of due left.now }
+    ensures value { IfOk result (λ cut. cut.value.now ≡ value_in (length cut.value.now) left.now) }
+    ensures behind { IfOk result (λ cut. cut.behind.now ≡ behind (length cut.value.now) left.now) }
 {
-    let refusal = header_refusal(due, left);
-    if refusal != refusals::ACCEPTED {
-        return Field::Refused(refusal);
-    }
-    let tag = left[0];
-    let size = length_due(due, tag);
-    if left.len() < HEADER_LENGTH + size {
-        return Field::Refused(refusals::BOOK_CUT);
-    }
-    Field::Value(tag, size)
+    let tag = header_tag(due, left)?;
+    let (value, behind) = left[HEADER_LENGTH..]
+        .split_at_checked(length_due(due, tag))
+        .ok_or(Refusal::BookCut)?;
+    Ok(Cut { tag, value, behind })
 }

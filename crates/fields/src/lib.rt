@@ -7,16 +7,17 @@ pub mod cutting;
 pub const HEADER_LENGTH: usize = 3;
 
 // Which field is due at a place of the book.
-#[derive(Clone, Copy)]
+#[derive(Clone, Copy, Debug, PartialEq, Eq)]
 pub enum Due {
     Head,
     Calendar,
     Point,
 }
 
-// The field answer: the tag and the length of the value, or the refusal that ends the reading.
-#[derive(Clone, Copy)]
-pub enum Field {
-    Value(u8, usize),
-    Refused(u32),
+// A field that is cut off: its tag, its value, and what is left of the book behind it.
+#[derive(Clone, Copy, Debug)]
+pub struct Cut<'a> {
+    pub tag: u8,
+    pub value: &'a [u8],
+    pub behind: &'a [u8],
 }

@@ -1,104 +1,97 @@
 // The lines of the figures of a settled book: its date, its points, the slot totals and the closing figures.
-#![tactic(auto)]
+#![tactic(auto, using(lines::proofs::Decimals::decimal_is, std::proofs::lemmas::Grind::common_steps))]
 
-ghost use Rattle.std.specs.Prelude.{◌+◌, ◌≤◌, length};
-ghost use Rattle.numbers.specs.Placing.{Placed};
+ghost use Rattle.std.specs.Prelude.{◌≡◌, ◌+◌, ◌≤◌, ◌++◌};
+ghost use Rattle.arrayvec.specs.ArrayVec.{array_vec_len};
 ghost use Rattle.figure_lines.specs.FigureLines.{dashed, date, date_line, slot_lines, settled_lines, bid_line};
 ghost use Rattle.figure_lines.specs.FigureLines.{capacity_lines, figure_lines};
 
+use arrayvec::ArrayVec;
 use figures::Figures;
 use heads::Head;
 use numbers::WINDOW_SLOTS;
 
-fn put_dashed(number: u8, at: usize, out: &mut [u8]) -> usize
-    requires { at + 22 ≤ length out.old }
-    ensures placed { Placed (dashed number) at out.old result out.new }
-    ensures bound { result ≤ at + 22 }
+fn put_dashed<const ROOM: usize>(text: &mut ArrayVec<u8, ROOM>, number: u8)
+    requires { array_vec_len text.old + 22 ≤ ROOM }
+    ensures bytes { text.new.items ≡ text.old.items ++ dashed number }
+    ensures bound { array_vec_len text.new ≤ array_vec_len text.old + 22 }
 {
-    let dash = lines::put(b"-", at, out);
-    lines::put_two_digits(number, dash, out)
+    lines::put(text, b"-");
+    lines::put_two_digits(text, number);
 }
 
-fn put_date(head: Head, at: usize, out: &mut [u8]) -> usize
-    requires { at + 64 ≤ length out.old }
-    ensures placed { Placed (date head) at out.old result out.new }
-    ensures bound { result ≤ at + 64 }
+fn put_date<const ROOM: usize>(text: &mut ArrayVec<u8, ROOM>, head: Head)
+    requires { array_vec_len text.old + 64 ≤ ROOM }
+    ensures bytes { text.new.items ≡ text.old.items ++ date head }
+    ensures bound { array_vec_len text.new ≤ array_vec_len text.old + 64 }
 {
-    let year = lines::put_number(head.year as u64, at, out);
-    let month = put_dashed(head.month, year, out);
-    put_dashed(head.day, month, out)
+    lines::put_number(text, head.year);
+    put_dashed(text, head.month);
+    put_dashed(text, head.day);
 }
 
-fn put_date_line(head: Head, at: usize, out: &mut [u8]) -> usize
-    requires { at + 96 ≤ length out.old }
-    ensures placed { Placed (date_line head) at out.old result out.new }
-    ensures bound { result ≤ at + 96 }
+fn put_date_line<const ROOM: usize>(text: &mut ArrayVec<u8, ROOM>, head: Head)
+    requires { array_vec_len text.old + 96 ≤ ROOM }
+    ensures bytes { text.new.items ≡ text.old.items ++ date_line head }
+    ensures bound { array_vec_len text.new ≤ array_vec_len text.old + 96 }
 {
-    let named = lines::put(b"date ", at, out);
-    let dated = put_date(head, named, out);
-    lines::put_line(b" slot ", head.slot as u64, dated, out)
+    lines::put(text, b"date ");
+    put_date(text, head);
+    lines::put_line(text, b" slot ", head.slot);
 }
 
-fn put_slots(totals: [i64; WINDOW_SLOTS], at: usize, out: &mut [u8]) -> usize
-    requires { at + 288 ≤ length out.old }
-    ensures placed { Placed (slot_lines 1 totals) at out.old result out.new }
-    ensures bound { result ≤ at + 288 }
+fn put_slots<const ROOM: usize>(text: &mut ArrayVec<u8, ROOM>, totals: [i64; WINDOW_SLOTS])
+    requires { array_vec_len text.old + 288 ≤ ROOM }
+    ensures bytes { text.new.items ≡ text.old.items ++ slot_lines 1 totals }
+    ensures bound { array_vec_len text.new ≤ array_vec_len text.old + 288 }
 {
-    let mut end = at;
-    let mut i: usize = 0;
-    while i < WINDOW_SLOTS {
-        let named = lines::put(b"slot ", end, out);
-        let numbered = lines::put_number((i + 1) as u64, named, out);
-        end = lines::put_signed_line(b" ", totals[i], numbered, out);
-        i += 1;
+    for (i, total) in totals.iter().enumerate() {
+        lines::put(text, b"slot ");
+        lines::put_number(text, i + 1);
+        lines::put_line(text, b" ", *total);
     }
-    end
 }
 
-fn put_settled_lines(figures: Figures, at: usize, out: &mut [u8]) -> usize
-    requires { at + 89 ≤ length out.old }
-    ensures placed { Placed (settled_lines figures) at out.old result out.new }
-    ensures bound { result ≤ at + 89 }
+fn put_settled_lines<const ROOM: usize>(text: &mut ArrayVec<u8, ROOM>, figures: Figures)
+    requires { array_vec_len text.old + 89 ≤ ROOM }
+    ensures bytes { text.new.items ≡ text.old.items ++ settled_lines figures }
+    ensures bound { array_vec_len text.new ≤ array_vec_len text.old + 89 }
 {
-    let total = lines::put_signed_line(b"total ", figures.total, at, out);
-    let settled = lines::put_signed_line(b"settled ", figures.settled, total, out);
-    lines::put_line(b"shortfall ", figures.shortfall, settled, out)
+    lines::put_line(text, b"total ", figures.total);
+    lines::put_line(text, b"settled ", figures.settled);
+    lines::put_line(text, b"shortfall ", figures.shortfall);
 }
 
-fn put_bid(bid: bool, at: usize, out: &mut [u8]) -> usize
-    requires { at + 8 ≤ length out.old }
-    ensures { Placed (bid_line bid) at out.old result out.new }
+fn put_bid<const ROOM: usize>(text: &mut ArrayVec<u8, ROOM>, bid: bool)
+    requires { array_vec_len text.old + 8 ≤ ROOM }
+    ensures { text.new.items ≡ text.old.items ++ bid_line bid }
 {
-    if bid {
-        return lines::put(b"bid yes\n", at, out);
-    }
-    lines::put(b"bid no\n", at, out)
+    lines::put(text, if bid { b"bid yes\n" } else { b"bid no\n" });
 }
 
-fn put_capacity_lines(figures: Figures, at: usize, out: &mut [u8]) -> usize
-    requires { at + 93 ≤ length out.old }
-    ensures { Placed (capacity_lines figures) at out.old result out.new }
+fn put_capacity_lines<const ROOM: usize>(text: &mut ArrayVec<u8, ROOM>, figures: Figures)
+    requires { array_vec_len text.old + 93 ≤ ROOM }
+    ensures { text.new.items ≡ text.old.items ++ capacity_lines figures }
 {
-    let expected = lines::put_line(b"expected ", figures.expected, at, out);
-    let kept = lines::put_line(b"kept ", figures.kept, expected, out);
-    let surplus = lines::put_line(b"surplus ", figures.surplus, kept, out);
-    put_bid(figures.bid, surplus, out)
+    lines::put_line(text, b"expected ", figures.expected);
+    lines::put_line(text, b"kept ", figures.kept);
+    lines::put_line(text, b"surplus ", figures.surplus);
+    put_bid(text, figures.bid);
 }
 
-// All of them, from a place of the lent bytes on.
-pub fn put_figures(
+// All of them.
+pub fn put_figures<const ROOM: usize>(
+    text: &mut ArrayVec<u8, ROOM>,
     head: Head,
     totals: [i64; WINDOW_SLOTS],
     figures: Figures,
-    at: usize,
-    out: &mut [u8],
-) -> usize
-    requires { at + 594 ≤ length out.old }
-    ensures { Placed (figure_lines head totals figures) at out.old result out.new }
+)
+    requires { array_vec_len text.old + 594 ≤ ROOM }
+    ensures { text.new.items ≡ text.old.items ++ figure_lines head totals figures }
 {
-    let dated = put_date_line(head, at, out);
-    let counted = lines::put_line(b"points ", figures.points as u64, dated, out);
-    let slots = put_slots(totals, counted, out);
-    let settled = put_settled_lines(figures, slots, out);
-    put_capacity_lines(figures, settled, out)
+    put_date_line(text, head);
+    lines::put_line(text, b"points ", figures.points);
+    put_slots(text, totals);
+    put_settled_lines(text, figures);
+    put_capacity_lines(text, figures);
 }

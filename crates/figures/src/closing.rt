@@ -19,35 +19,11 @@ fn shortfall_of(contract: u32, settled: i64) -> u64
     requires { nat_abs settled < 9000000000000000000 }
     ensures { result ≡ shortfall_of contract settled }
 {
-    if settled < 0 {
-        return (contract as u64) + integers::size_of(settled);
-    }
-    let reached = integers::or_zero(settled);
-    if (contract as u64) < reached {
-        0
-    } else {
-        (contract as u64) - reached
-    }
-}
-
-// The smaller of two numbers.
-fn smaller(a: u64, b: u64) -> u64
-    ensures { result ≡ Prim.Native.Nat.min a b }
-{
-    if a < b { a } else { b }
-}
-
-// Whether an expected capacity may be bid.
-fn is_bid(expected: u64) -> bool
-    ensures { result ≡ leb least_bid expected }
-{
-    if expected < LEAST_BID {
-        return false;
-    }
-    true
+    integers::or_zero(i64::from(contract) - settled)
 }
 
 // The figures of a contract, slot totals and points taken.
+#[tactic(auto, unfolding(crate::specs::Figures::figures_of))]
 pub fn figures_of(contract: u32, totals: [i64; WINDOW_SLOTS], points: u32) -> Figures
     requires { (i : ℕ) → nat_abs (get_or totals i (pos 0)) ≤ most_summand }
     ensures { result ≡ figures_of contract totals points }
@@ -56,8 +32,7 @@ pub fn figures_of(contract: u32, totals: [i64; WINDOW_SLOTS], points: u32) -> Fi
     let settled = integers::floor_div(total, WATT_HOURS);
     let shortfall = shortfall_of(contract, settled);
     let expected = integers::or_zero(settled);
-    let kept = smaller(expected, contract as u64);
-    let bid = is_bid(expected);
+    let kept = expected.min(u64::from(contract));
     Figures {
         total,
         settled,
@@ -66,7 +41,7 @@ pub fn figures_of(contract: u32, totals: [i64; WINDOW_SLOTS], points: u32) -> Fi
         kept,
         surplus: expected - kept,
         points,
-        bid,
+        bid: LEAST_BID <= expected,
     }
 }
 
@@ -74,14 +49,5 @@ pub fn figures_of(contract: u32, totals: [i64; WINDOW_SLOTS], points: u32) -> Fi
 pub fn no_figures() -> Figures
     ensures { result ≡ no_figures }
 {
-    Figures {
-        total: 0,
-        settled: 0,
-        shortfall: 0,
-        expected: 0,
-        kept: 0,
-        surplus: 0,
-        points: 0,
-        bid: false,
-    }
+    Figures::default()
 }

@@ -5,7 +5,7 @@ pub mod closing;
 pub mod totals;
 
 // The closing figures: total in Wh, the others in kW.
-#[derive(Clone, Copy)]
+#[derive(Clone, Copy, Default)]
 pub struct Figures {
     pub total: i64,
     pub settled: i64,

@@ -3,11 +3,13 @@
 
 ghost use Rattle.std.specs.Prelude.{◌≡◌, ◌≤◌, length};
 ghost use Rattle.numbers.specs.Refusals.{first_told};
+ghost use Rattle.refusals.specs.Told.{number_told};
 ghost use Rattle.heads.specs.Heads.{head_length, calendar_length, count_at, head_with, head_of};
 ghost use Rattle.heads.specs.Heads.{day_rows, slot_row, loss_row, contract_row, counts, count_row};
 ghost use Rattle.heads.specs.Heads.{content_refusal, opening_refusal};
 
 use numbers::DAYS_BACK;
+use refusals::Refusal;
 
 // The limits that opening tests (specs/Limits).
 const EARLIEST_SLOT: u8 = 18;
@@ -53,7 +55,7 @@ const CONTRACT_AT: usize = 11;
 pub const COUNT_AT: usize = 15;
 
 // The values of a head (document 01, 'The test book').
-#[derive(Clone, Copy)]
+#[derive(Clone, Copy, Debug, PartialEq, Eq)]
 pub struct Head {
     pub year: u16,
     pub month: u8,
@@ -96,120 +98,77 @@ pub fn head_of(bytes: &[u8]) -> Head
     head_with(numbers::word16_at(bytes, COUNT_AT) as u32, bytes)
 }
 
-// The thirty marks of a calendar.
-pub fn marks_of(bytes: &[u8]) -> [u8; DAYS_BACK]
-    requires { length bytes.now ≡ calendar_length }
-    ensures { result ≡ bytes.now }
-{
-    let mut marks = [0u8; DAYS_BACK];
-    let mut i: usize = 0;
-    while i < CALENDAR_LENGTH {
-        marks[i] = bytes[i];
-        i += 1;
-    }
-    marks
-}
-
 // No such date, or a Saturday or Sunday.
-fn day_refusal(head: Head) -> u32
-    ensures { result ≡ first_told (day_rows head) }
+fn day_refusal(head: Head) -> Result<(), Refusal>
+    ensures { number_told result ≡ first_told (day_rows head) }
 {
     let year = head.year;
     let month = head.month;
     let day = head.day;
     if !calendar::is_date(year, month, day) {
-        return refusals::NO_SUCH_DATE;
+        return Err(Refusal::NoSuchDate);
     }
     if calendar::is_weekend(calendar::day_count(year, month, day)) {
-        return refusals::WEEKEND;
+        return Err(Refusal::Weekend);
     }
-    refusals::ACCEPTED
+    Ok(())
 }
 
-// The window begins at 9:00 at the earliest and ends at 20:00 at the latest.
-fn slot_refusal(slot: u8) -> u32
-    ensures { result ≡ first_told (slot_row slot) }
+// The window begins at 9:00 at the earliest and ends at 20:00 at the latest. Document 01 names a match for marks, tags, classes and slots.
+fn slot_refusal(slot: u8) -> Result<(), Refusal>
+    ensures { number_told result ≡ first_told (slot_row slot) }
 {
     match slot {
-        EARLIEST_SLOT..=LATEST_SLOT => refusals::ACCEPTED,
-        _ => refusals::WINDOW_SLOT,
+        EARLIEST_SLOT..=LATEST_SLOT => Ok(()),
+        _ => Err(Refusal::WindowSlot),
     }
 }
 
 // A loss above fifty percent.
-fn loss_refusal(losses: [u16; 3]) -> u32
-    ensures { result ≡ first_told (loss_row losses) }
+fn loss_refusal(losses: [u16; 3]) -> Result<(), Refusal>
+    ensures { number_told result ≡ first_told (loss_row losses) }
 {
-    if MOST_LOSS < losses[0] {
-        return refusals::LOSS;
+    if losses.iter().any(|loss| MOST_LOSS < *loss) {
+        return Err(Refusal::Loss);
     }
-    if MOST_LOSS < losses[1] {
-        return refusals::LOSS;
-    }
-    if MOST_LOSS < losses[2] {
-        return refusals::LOSS;
-    }
-    refusals::ACCEPTED
+    Ok(())
 }
 
 // No contract, or one of 1,000 to 10,000,000 kW.
-pub fn contract_refusal(contract: u64) -> u32
-    ensures { result ≡ first_told (contract_row contract) }
+pub fn contract_refusal(contract: u64) -> Result<(), Refusal>
+    ensures { number_told result ≡ first_told (contract_row contract) }
 {
-    match contract {
-        0 | LEAST_CONTRACT..=MOST_CONTRACT => refusals::ACCEPTED,
-        _ => refusals::CONTRACT,
+    if contract == 0 {
+        return Ok(());
     }
+    refusals::within(contract, LEAST_CONTRACT..=MOST_CONTRACT, Refusal::Contract)
 }
 
 // A list has 1 to 10,000 points.
-pub fn count_refusal(count: u32) -> u32
-    ensures { result ≡ first_told (count_row counts count) }
+pub fn count_refusal(count: u32) -> Result<(), Refusal>
+    ensures { number_told result ≡ first_told (count_row counts count) }
 {
-    match count {
-        LEAST_POINTS..=MOST_POINTS => refusals::ACCEPTED,
-        _ => refusals::COUNT,
-    }
+    refusals::within(count, LEAST_POINTS..=MOST_POINTS, Refusal::Count)
 }
 
 // What opening refuses in the values of a head and a calendar, 2 to 8. It is also asked of a state's contents.
-pub fn content_refusal(head: Head, marks: [u8; DAYS_BACK]) -> u32
-    ensures { result ≡ content_refusal head marks }
+pub fn content_refusal(head: Head, marks: [u8; DAYS_BACK]) -> Result<(), Refusal>
+    ensures { number_told result ≡ content_refusal head marks }
 {
-    let day = day_refusal(head);
-    if day != refusals::ACCEPTED {
-        return day;
-    }
-    let slot = slot_refusal(head.slot);
-    if slot != refusals::ACCEPTED {
-        return slot;
-    }
-    let losses = head.losses;
-    let loss = loss_refusal(losses);
-    if loss != refusals::ACCEPTED {
-        return loss;
-    }
-    let contract = contract_refusal(head.contract as u64);
-    if contract != refusals::ACCEPTED {
-        return contract;
-    }
-    let count = count_refusal(head.count);
-    if count != refusals::ACCEPTED {
-        return count;
-    }
+    day_refusal(head)?;
+    slot_refusal(head.slot)?;
+    loss_refusal(head.losses)?;
+    contract_refusal(u64::from(head.contract))?;
+    count_refusal(head.count)?;
     calendar::marks_refusal(&marks)
 }
 
 // What opening refuses in the bytes of a head and a calendar, 1 to 8.
-pub fn opening_refusal(head: &[u8], calendar: &[u8]) -> u32
-    ensures { result ≡ opening_refusal head.now calendar.now }
+pub fn opening_refusal(head: &[u8], calendar: &[u8]) -> Result<(), Refusal>
+    ensures { number_told result ≡ opening_refusal head.now calendar.now }
 {
-    if head.len() != HEAD_LENGTH {
-        return refusals::LENGTHS;
+    if head.len() != HEAD_LENGTH || calendar.len() != CALENDAR_LENGTH {
+        return Err(Refusal::Lengths);
     }
-    if calendar.len() != CALENDAR_LENGTH {
-        return refusals::LENGTHS;
-    }
-    let marks = marks_of(calendar);
-    content_refusal(head_of(head), marks)
+    content_refusal(head_of(head), numbers::array_of(calendar))
 }

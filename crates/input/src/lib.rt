@@ -1,37 +1,23 @@
 // What a reader gives, such as standard input.
 #![tactic(auto)]
 
-ghost use Rattle.std.specs.Prelude.{◌≡◌, ◌≤◌, ◌<◌, length};
+ghost use Rattle.std.specs.Prelude.{◌≡◌, ◌≤◌, ◌<◌, IfOk, length};
 
+use std::io;
 use std::io::Read;
 
-// How many bytes came, fewer than there is room for where the input ends; or a read that failed.
-#[derive(Clone, Copy)]
-pub struct Got {
-    pub count: usize,
-    pub failed: bool,
-}
-
-// Fills the lent bytes from the front.
-pub fn fill<R: Read>(source: &mut R, bytes: &mut [u8]) -> Got
-    ensures count_in_bounds { result.count ≤ length bytes.old }
+// Fills the lent bytes from the front, and answers how many came: fewer than there is room for where the input ends.
+pub fn fill<R: Read>(source: &mut R, bytes: &mut [u8]) -> io::Result<usize>
+    ensures count_in_bounds { IfOk result (λ count. count ≤ length bytes.old) }
     ensures bytes_len_unchanged { length bytes.new ≡ length bytes.old }
 {
     let mut done: usize = 0;
+    // No index is counted here: each read says how many more came.
     while done < bytes.len() {
-        match source.read(&mut bytes[done..]) {
-            Ok(0) => break,
-            Ok(more) => done += more,
-            Err(_) => {
-                return Got {
-                    count: done,
-                    failed: true,
-                };
-            }
+        match source.read(&mut bytes[done..])? {
+            0 => break,
+            more => done += more,
         }
     }
-    Got {
-        count: done,
-        failed: false,
-    }
+    Ok(done)
 }

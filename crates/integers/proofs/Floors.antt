@@ -10,7 +10,7 @@ use lib.IntN.{ℤ, pos, negsuc, ◌+ℤ◌, ◌*ℤ◌, nat_abs}
 use lib.Signed.{◌≤ℤ◌, ◌<ℤ◌}
 use mir.Facts.{eqb_yes, yes_eqb}
 use Rattle.integers.specs.Integers.{floor_div, divides}
-use Rattle.integers.proofs.Differences.{by⊖, ⊖s}
+use Rattle.std.proofs.lemmas.Int.{ints}
 
 -- what the division leaves
 abbrev pub rest : ℤ → ℕ → ℕ
@@ -23,20 +23,14 @@ rest-< (negsuc n) d p = omega arith
 
 pub rest_is : (n : ℤ) (d : ℕ) → 0 < d → n ≡ floor_div n d *ℤ pos d +ℤ pos (rest n d)
 rest_is (pos n) d p = ap pos (sym (div-add-mod' n d))
-rest_is (negsuc n) d p = let h = mod-lt n p in let e = div-add-mod' n d in simp ⊖s (omega arith)
+rest_is (negsuc n) d p = let h = mod-lt n p in let e = div-add-mod' n d in omega (arith, ints)
 
 -- d × q ≤ n < d × q + d
 pub floor_low : (n : ℤ) (d : ℕ) → 0 < d → (floor_div n d *ℤ pos d) ≤ℤ n
-floor_low n d p = go (floor_div n d) n (rest n d) (rest_is n d p)
-  where
-    go : (q n : ℤ) (r : ℕ) → n ≡ q *ℤ pos d +ℤ pos r → (q *ℤ pos d) ≤ℤ n
-    go = by⊖ _ λ a a'. by⊖ _ λ b b'. simp ⊖s (omega arith)
+floor_low n d p = omega (arith, ints, rest_is n d p)
 
 pub floor_high : (n : ℤ) (d : ℕ) → 0 < d → n <ℤ (floor_div n d *ℤ pos d +ℤ pos d)
-floor_high n d p = go (floor_div n d) n (rest n d) (rest_is n d p) (rest-< n d p)
-  where
-    go : (q n : ℤ) (r : ℕ) → n ≡ q *ℤ pos d +ℤ pos r → r < d → n <ℤ (q *ℤ pos d +ℤ pos d)
-    go = by⊖ _ λ a a'. by⊖ _ λ b b'. simp ⊖s (omega arith)
+floor_high n d p = omega (arith, ints, rest_is n d p, rest-< n d p)
 
 -- nothing is left exactly where the size is a multiple
 last_rest : (d n : ℕ) → 0 < d → (suc n % d ≡ 0) ↔ (d - suc (n % d) ≡ 0)

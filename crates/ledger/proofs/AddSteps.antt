@@ -1,12 +1,13 @@
 -- Adding in steps: the early refusals, then the days. Assumes nothing.
-use mathlib.Core.Path.{◌≡◌, ap, sym, ◌∙◌}
-use mathlib.Core.Bool.{true, false, not}
+use mathlib.Core.Path.{◌≡◌, ap, sym, ◌∙◌, refl}
+use mathlib.Core.Bool.{true, false, true≢false}
 use mathlib.Core.List.{List}
 use Prim.Native.Nat.{ℕ, ◌+◌, ◌^◌, ◌<◌, ◌≤◌}
 use native.Mathlib.Omega.{arith}
 use lib.IntN.{ℤ, pos, nat_abs}
 use lib.ListN.{length, get_or}
-use borrow.Author.Tests.{eq-eqb, ne_eqb, not-true, not-false}
+use Rattle.std.specs.Prelude.{Bool, cond, Some, None, Err, is_some, unwrap_or}
+use borrow.Author.Tests.{eq-eqb, ne_eqb}
 use Rattle.numbers.specs.Slots.{no_days}
 use Rattle.numbers.specs.PointNumbers.{number_length}
 use Rattle.numbers.specs.Refusals.{first_told}
@@ -14,7 +15,10 @@ use Rattle.numbers.proofs.Refusals.{untold, told, passed, both_accepted}
 use Rattle.heads.specs.declared.Head.{Head}
 use Rattle.heads.proofs.Opening.{opens}
 use Rattle.points.specs.Points.{Kind, kind_of, number_of, index_told, with_index}
-use Rattle.points.specs.declared.Refusal.{Refusal}
+use Rattle.points.specs.Told.{refusal_told}
+use Rattle.refusals.specs.declared.Refusal.{Refusal}
+use Rattle.refusals.specs.Told.{number_of as refusal_number, index_of}
+use Rattle.refusals.proofs.Refused.{refused as never_zero}
 use Rattle.points.proofs.PointKinds.{known_length, values_numbered}
 use Rattle.results.specs.SlotResults.{lacks_days, days_told, results}
 use Rattle.results.specs.Steps.{found_of}
@@ -27,18 +31,26 @@ use Rattle.ledger.proofs.Sound.{Sound, sound, sound_is, total_small, add_good, a
 
 -- ---- the days
 
-module _ (h : Head) (marks : List ℕ) (kind : Kind) (value : List ℕ) {answer : Found} (e : answer ≡ found_of h marks kind value) where
-  pub days_lack : not answer.enough ≡ true → lacks_days h marks kind value ≡ true
-  unfolding found_of
-  days_lack t = not-false _ (not-true _ (rw e at t))
+-- what is found where there are four days, and that they lack where nothing is
+none_lacks : (lacks : Bool) (found : Found) → cond lacks None (Some found) ≡ None → lacks ≡ true
+none_lacks true found e = refl
+none_lacks false found e = absurd (true≢false (ap is_some e))
 
-  pub days_suffice : not answer.enough ≡ false → lacks_days h marks kind value ≡ false
-  unfolding found_of
-  days_suffice t = not-true _ (not-false _ (rw e at t))
+some_suffices : (lacks : Bool) (found answer : Found) → Some answer ≡ cond lacks None (Some found) → (lacks ≡ false) × (answer ≡ found)
+some_suffices true found answer e = absurd (true≢false (ap is_some e))
+some_suffices false found answer e = (refl, ap (λ o. unwrap_or o found) e)
 
-  pub found_is : lacks_days h marks kind value ≡ false → (answer.found ≡ results h marks kind value) × (answer.days ≡ days_told h marks kind value)
+module _ (h : Head) (marks : List ℕ) (kind : Kind) (value : List ℕ) where
+  pub days_lack : None ≡ found_of h marks kind value → lacks_days h marks kind value ≡ true
   unfolding found_of
-  found_is l = (rw e (simp l), rw e (simp l))
+  days_lack e = none_lacks _ _ (sym e)
+
+  pub days_suffice : {answer : Found} → Some answer ≡ found_of h marks kind value
+      → (lacks_days h marks kind value ≡ false) × (answer.found ≡ results h marks kind value) × (answer.days ≡ days_told h marks kind value)
+  unfolding found_of
+  days_suffice e =
+      let both = some_suffices _ _ _ e in
+      (both.0, ap (λ f. f.found) both.1, ap (λ f. f.days) both.1)
 
 -- ---- the rows
 
@@ -99,10 +111,10 @@ module _ (state : State) (tag : ℕ) (value : List ℕ) (places : List ℤ) wher
   refused e h i = (rw (add_bad state tag value (length places) (λ z. h (sym e ∙ z)), e, i), simp (ne_eqb _ _ (λ z. h (sym e ∙ z))))
 
   -- by an early refusal
-  pub early_refused : {early : Refusal} → early ≡ with_index (early_refusal state tag value (length places)) tag value → (early.number ≡ 0 → ⊥)
-      → (record { refusal = early.number; state = state; days = no_days; index = early.index } ≡ add_of state tag value (length places))
+  pub early_refused : (early : Refusal) → refusal_told {A = Unit {0}} (Err early) ≡ with_index (early_refusal state tag value (length places)) tag value
+      → (record { refusal = refusal_number early; state = state; days = no_days; index = index_of early } ≡ add_of state tag value (length places))
       × (places ≡ places_of state tag value places)
-  early_refused e h =
+  early_refused early e =
       let number = ap (λ r. r.number) e in
       let index = ap (λ r. r.index) e ∙ ap (λ n. index_told n tag value) (sym number) in
-      refused (early_told state tag value (length places) (λ z. h (number ∙ z)) ∙ sym number) h index
+      refused (early_told state tag value (length places) (λ z. never_zero early (number ∙ z)) ∙ sym number) (never_zero early) index

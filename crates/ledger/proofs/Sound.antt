@@ -18,10 +18,12 @@ use Rattle.heads.specs.Heads.{head_of, content_refusal, opening_refusal}
 use Rattle.points.specs.Points.{number_of, index_told}
 use Rattle.ledger.specs.States.{opened, no_state, slot_totals, is_unsound, taken}
 use Rattle.figures.specs.Figures.{figures_of, no_figures}
-use Rattle.ledger.specs.Operations.{open_of, point_refusal, adding_refusal, results_of, days_told_of, add_of, closing_refusal, close_of}
+use Rattle.ledger.specs.Operations.{open_of, point_refusal, adding_refusal, results_of, days_told_of, add_of, closing_refusal, close_of, unsound_row}
+use Rattle.numbers.specs.Refusals.{first_told}
+use Rattle.numbers.proofs.Refusals.{clear}
 use Rattle.ledger.specs.declared.State.{State}
-use Rattle.ledger.specs.declared.Opened.{Opened}
-use Rattle.ledger.specs.declared.Added.{Added}
+use Rattle.ledger.specs.Operations.{Opened}
+use Rattle.ledger.specs.Operations.{Added}
 use Rattle.ledger.specs.declared.Closed.{Closed}
 use Rattle.numbers.proofs.Tests.{none_of, none_cons, no_false}
 use Rattle.integers.proofs.Machine.{sum_abs}
@@ -109,6 +111,10 @@ module _ (state : State) where
   pub sound_is : Sound state → is_unsound state ≡ false
   unfolding is_unsound
   sound_is s = simp (s.content, le-ltb _ _ s.room, s.totals, s.last)
+
+-- one that 9 does not refuse
+pub unsound_passed : (state : State) → 0 ≡ first_told (unsound_row state) → is_unsound state ≡ false
+unsound_passed state e = (clear (unsound_row state) tt (sym e)).0
 
 -- its slot totals are far from the ends of their type
 pub total_small : (state : State) → Sound state → (i : ℕ) → nat_abs (get_or (slot_totals state) i (pos 0)) ≤ 1000000000000000

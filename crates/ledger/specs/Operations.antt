@@ -10,9 +10,21 @@ use Rattle.ledger.specs.States.{opened, no_state, slot_totals, is_unsound, taken
 use Rattle.figures.specs.Figures.{figures_of, no_figures}
 use Rattle.heads.specs.declared.Head.{Head}
 use Rattle.ledger.specs.declared.State.{State}
-use Rattle.ledger.specs.declared.Opened.{Opened}
-use Rattle.ledger.specs.declared.Added.{Added}
 use Rattle.ledger.specs.declared.Closed.{Closed}
+
+-- THE ANSWERS. The refusal is a number, 0 is accepted.
+
+-- of opening
+pub record Opened : Type 0 where
+  pub refusal : ℕ
+  pub state : State
+
+-- of adding: CR 2, the days as numbers back, nearest first; CR 3, the index of the reading which is too large
+pub record Added : Type 0 where
+  pub refusal : ℕ
+  pub state : State
+  pub days : List ℕ
+  pub index : ℕ
 
 -- OPENING
 unfoldable pub open_of : List ℕ → List ℕ → Opened

@@ -1,73 +1,54 @@
 // The refusals of adding, in the order in which they are told.
 ghost use Rattle.std.specs.Prelude.{◌≡◌};
 ghost use Rattle.numbers.specs.Refusals.{first_told};
+ghost use Rattle.refusals.specs.Told.{number_told};
 ghost use Rattle.points.specs.Points.{with_index};
+ghost use Rattle.points.specs.Told.{refusal_told};
 ghost use Rattle.ledger.specs.Operations.{number_rows, state_rows, early_refusal};
 
 use crate::{State, states};
 use numbers::{NUMBER_LENGTH, WINDOW_SLOTS};
-use points::Refusal;
+use points::Point;
+use refusals::Refusal;
 
 // A number that is not allowed, or not above the last one; the first point has none before it.
-fn number_refusal(number: &[u8], points: u32, last: [u8; NUMBER_LENGTH]) -> u32
-    ensures { result ≡ first_told (number_rows points last number.now) }
+fn number_refusal(
+    number: [u8; NUMBER_LENGTH],
+    points: u32,
+    last: [u8; NUMBER_LENGTH],
+) -> Result<(), Refusal>
+    ensures { number_told result ≡ first_told (number_rows points last number) }
 {
-    if !numbers::is_number(number) {
-        return refusals::POINT_NUMBER;
+    if !numbers::is_number(&number) {
+        return Err(Refusal::PointNumber);
     }
-    if points == 0 {
-        return refusals::ACCEPTED;
+    if 0 < points && !numbers::is_below(&last, &number) {
+        return Err(Refusal::NumberNotAbove);
     }
-    if !numbers::is_below(&last, number) {
-        return refusals::NUMBER_NOT_ABOVE;
-    }
-    refusals::ACCEPTED
+    Ok(())
 }
 
 // A state that 9 refuses, or one whose count is reached.
-fn state_refusal(state: State) -> u32
-    ensures { result ≡ first_told (state_rows state) }
+fn state_refusal(state: State) -> Result<(), Refusal>
+    ensures { number_told result ≡ first_told (state_rows state) }
 {
-    if states::is_unsound(state) {
-        return refusals::UNSOUND_STATE;
+    states::unsound_refusal(state)?;
+    if state.head.count <= state.points {
+        return Err(Refusal::CountReached);
     }
-    let head = state.head;
-    let points = state.points;
-    if head.count <= points {
-        return refusals::COUNT_REACHED;
-    }
-    refusals::ACCEPTED
+    Ok(())
 }
 
 // 9 to 15, 16 or 50, 51 or 52: all that is told before the days are chosen, with the index of a reading.
-pub fn early_refusal(state: State, tag: u8, value: &[u8], places: usize) -> Refusal
-    ensures { result ≡ with_index (early_refusal state tag value.now places) tag value.now }
+#[tactic(auto, unfolding(crate::specs::Operations::early_refusal))]
+pub fn early_refusal(state: State, tag: u8, value: &[u8], places: usize) -> Result<(), Refusal>
+    ensures { refusal_told result ≡ with_index (early_refusal state tag value.now places) tag value.now }
 {
-    let unsound = state_refusal(state);
-    if unsound != refusals::ACCEPTED {
-        return Refusal {
-            number: unsound,
-            index: 0,
-        };
-    }
-    let form = points::form_refusal(tag, value.len());
-    if form != refusals::ACCEPTED {
-        return Refusal {
-            number: form,
-            index: 0,
-        };
-    }
+    state_refusal(state)?;
+    let point = Point::new(tag, value)?;
     if places != WINDOW_SLOTS {
-        return Refusal {
-            number: refusals::NOT_SIX_PLACES,
-            index: 0,
-        };
+        return Err(Refusal::NotSixPlaces);
     }
-    let points = state.points;
-    let last = state.last;
-    let number = number_refusal(&value[0..NUMBER_LENGTH], points, last);
-    if number != refusals::ACCEPTED {
-        return Refusal { number, index: 0 };
-    }
-    points::value_refusal(tag, value)
+    number_refusal(point.number(), state.points, state.last)?;
+    point.value_refusal()
 }

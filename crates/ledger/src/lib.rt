@@ -3,6 +3,7 @@
 
 ghost use Rattle.std.specs.Prelude.{◌≡◌, length};
 ghost use Rattle.ledger.specs.Operations.{open_of, add_of, places_of, close_of};
+ghost use Rattle.ledger.specs.Told.{opened_told, added_told, closed_told};
 
 mod adding;
 pub mod states;
@@ -10,6 +11,7 @@ pub mod states;
 use figures::Figures;
 use heads::Head;
 use numbers::{DAYS_BACK, DAYS_USED, NUMBER_LENGTH, WINDOW_SLOTS};
+use refusals::Refusal;
 
 // The settlement state. It goes in and comes back by value, and no field of it is trusted.
 #[derive(Clone, Copy)]
@@ -25,24 +27,14 @@ pub struct State {
     pub last: [u8; NUMBER_LENGTH],
 }
 
-// The answer of opening; refusal 0 is accepted.
-#[derive(Clone, Copy)]
-pub struct Opened {
-    pub refusal: u32,
-    pub state: State,
-}
-
-// The answer of adding. The days are numbers back, nearest first; zeros of a refused call and of a point that is no consumer. The index
-// is that of the reading which is too large; 0 of every other answer.
+// What adding gives. The days are numbers back, nearest first; zeros of a point that is no consumer.
 #[derive(Clone, Copy)]
 pub struct Added {
-    pub refusal: u32,
     pub state: State,
     pub days: [u8; DAYS_USED],
-    pub index: u32,
 }
 
-// The answer of closing.
+// The answer of closing a book, while its endings tell a number.
 #[derive(Clone, Copy)]
 pub struct Closed {
     pub refusal: u32,
@@ -50,91 +42,54 @@ pub struct Closed {
 }
 
 // Opening: the head and the calendar of a test give a state with no points.
-pub fn open(head: &[u8], calendar: &[u8]) -> Opened
-    ensures { result ≡ open_of head.now calendar.now }
+#[tactic(auto, unfolding(crate::specs::Operations::open_of))]
+pub fn open(head: &[u8], calendar: &[u8]) -> Result<State, Refusal>
+    ensures { opened_told result ≡ open_of head.now calendar.now }
 {
-    let refusal = heads::opening_refusal(head, calendar);
-    if refusal != refusals::ACCEPTED {
-        let state = states::no_state();
-        return Opened { refusal, state };
-    }
-    let marks = heads::marks_of(calendar);
-    let state = states::opened_state(heads::head_of(head), marks);
-    Opened {
-        refusal: refusals::ACCEPTED,
-        state,
-    }
+    heads::opening_refusal(head, calendar)?;
+    let marks = numbers::array_of(calendar);
+    Ok(states::opened_state(heads::head_of(head), marks))
 }
 
 // Closing: the figures of a state whose count is reached.
-pub fn close(state: State) -> Closed
-    ensures { result ≡ close_of state }
+#[tactic(auto, unfolding(crate::specs::Operations::close_of, crate::specs::Operations::closing_refusal))]
+pub fn close(state: State) -> Result<Figures, Refusal>
+    ensures { closed_told result ≡ close_of state }
 {
-    if states::is_unsound(state) {
-        let figures = figures::closing::no_figures();
-        return Closed {
-            refusal: refusals::UNSOUND_STATE,
-            figures,
-        };
-    }
+    states::unsound_refusal(state)?;
     let head = state.head;
     let points = state.points;
     if points < head.count {
-        let figures = figures::closing::no_figures();
-        return Closed {
-            refusal: refusals::COUNT_NOT_REACHED,
-            figures,
-        };
+        return Err(Refusal::CountNotReached);
     }
     let totals = states::slot_totals(state);
-    let figures = figures::closing::figures_of(head.contract, totals, points);
-    Closed {
-        refusal: refusals::ACCEPTED,
-        figures,
-    }
+    Ok(figures::closing::figures_of(head.contract, totals, points))
 }
 
-// Adding: a point's six results go to the lent places and into the slot totals; the days of a consumer go with the answer.
-pub fn add(state: State, tag: u8, value: &[u8], places: &mut [i64]) -> Added
-    ensures answer { result ≡ add_of state tag value.now (length places.old) }
+// Adding: a point's six results go to the lent places and into the slot totals; the days of a consumer go with the answer. A refused
+// call leaves the state as it was.
+pub fn add(state: State, tag: u8, value: &[u8], places: &mut [i64]) -> Result<Added, Refusal>
+    ensures answer { added_told state result ≡ add_of state tag value.now (length places.old) }
     ensures lent { places.new ≡ places_of state tag value.now places.old }
 {
-    let early = adding::early_refusal(state, tag, value, places.len());
-    let refusal = early.number;
-    if refusal != refusals::ACCEPTED {
-        return Added {
-            refusal,
-            state,
-            days: [0; DAYS_USED],
-            index: early.index,
-        };
-    }
-    let head = state.head;
-    let marks = state.marks;
-    let answer = results::results_of(head, marks, tag, value);
-    let enough = answer.enough;
-    if !enough {
-        return Added {
-            refusal: refusals::TOO_FEW_DAYS,
-            state,
-            days: [0; DAYS_USED],
-            index: 0,
-        };
-    }
+    adding::early_refusal(state, tag, value, places.len())?;
+    let answer = results::results_of(state.head, state.marks, tag, value);
+    let Some(answer) = answer else {
+        return Err(Refusal::TooFewDays);
+    };
     let found = answer.found;
-    let days = answer.days;
     figures::totals::put(places, found);
     let before = states::slot_totals(state);
-    let sums = figures::totals::add_totals(before, found);
-    let number = points::number_of(value);
-    let mut next = state;
-    next.points = state.points + 1;
-    next.totals = sums;
-    next.last = number;
-    Added {
-        refusal: refusals::ACCEPTED,
-        state: next,
+    let totals = figures::totals::add_totals(before, found);
+    let last = points::number_of(value);
+    let days = answer.days;
+    Ok(Added {
+        state: State {
+            points: state.points + 1,
+            totals,
+            last,
+            ..state
+        },
         days,
-        index: 0,
-    }
+    })
 }

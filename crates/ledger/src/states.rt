@@ -1,10 +1,14 @@
 // The settlement state.
 ghost use Rattle.std.specs.Prelude.{◌≡◌};
+ghost use Rattle.numbers.specs.Refusals.{first_told};
+ghost use Rattle.refusals.specs.Told.{number_told};
 ghost use Rattle.ledger.specs.States.{opened, no_state, slot_totals, is_unsound};
+ghost use Rattle.ledger.specs.Operations.{unsound_row};
 
 use crate::State;
 use heads::Head;
 use numbers::{DAYS_BACK, NUMBER_LENGTH, WINDOW_SLOTS};
+use refusals::Refusal;
 
 // The size that one slot result may have.
 const MOST_RESULT: u64 = 4000000000;
@@ -51,26 +55,23 @@ pub fn slot_totals(state: State) -> [i64; WINDOW_SLOTS]
     state.totals
 }
 
-// Refusal 9: a state that no opening or adding can have given.
+// A state that no opening or adding can have given.
+#[tactic(auto, unfolding(crate::specs::States::is_unsound))]
 pub fn is_unsound(state: State) -> bool
     ensures { result ≡ is_unsound state }
 {
-    let head = state.head;
-    let marks = state.marks;
-    if heads::content_refusal(head, marks) != refusals::ACCEPTED {
-        return true;
+    heads::content_refusal(state.head, state.marks).is_err()
+        || state.head.count < state.points
+        || figures::totals::has_beyond(slot_totals(state), MOST_RESULT * (state.points as u64))
+        || 0 < state.points && !numbers::is_number(&state.last)
+}
+
+// Refusal 9.
+pub fn unsound_refusal(state: State) -> Result<(), Refusal>
+    ensures { number_told result ≡ first_told (unsound_row state) }
+{
+    if is_unsound(state) {
+        return Err(Refusal::UnsoundState);
     }
-    let points = state.points;
-    if head.count < points {
-        return true;
-    }
-    let totals = slot_totals(state);
-    if figures::totals::has_beyond(totals, MOST_RESULT * (points as u64)) {
-        return true;
-    }
-    if points == 0 {
-        return false;
-    }
-    let last = state.last;
-    !numbers::is_number(&last)
+    Ok(())
 }

@@ -4,7 +4,7 @@ use mathlib.Core.List.{List, [], ◌++◌, append_assoc}
 use Prim.Native.Nat.{ℕ, ◌+◌, ◌≤◌}
 use native.Mathlib.Omega.{arith}
 use lib.ListN.{length, take, drop, length-append, length-take, length-drop, take-append-drop}
-use lib.Seq.{paste, take-length, take_at, drop_at, drop-drop}
+use lib.Seq.{take_at, drop_at, drop-drop}
 use Rattle.numbers.specs.Placing.{at_front, placed, Placed}
 
 -- ---- at the front
@@ -19,10 +19,6 @@ module _ (bytes out : List ℕ) where
 -- ---- from a place on
 
 module _ (bytes : List ℕ) (at : ℕ) (out : List ℕ) where
-  -- what a copying loop leaves
-  pub pasted : paste out at bytes (length bytes) ≡ placed bytes at out
-  pasted = rw (take-length, append_assoc, drop-drop)
-
   module _ (room : at + length bytes ≤ length out) where
     pub placed_length : length (placed bytes at out) ≡ length out
     placed_length = simp (length-append, length-take, length-drop) (omega arith)
@@ -58,7 +54,3 @@ nothing at out h = record { ends = omega arith; within = h; bytes = sym (take-ap
 -- the same bytes by another name
 pub named : {bytes same : List ℕ} {at end : ℕ} {out after : List ℕ} → bytes ≡ same → Placed bytes at out end after → Placed same at out end after
 named {at = at} {end} {out} {after} e p = subst (λ t. Placed t at out end after) e p
-
--- what is put at the front ends behind its bytes
-pub front_end : {bytes out after : List ℕ} {end : ℕ} → Placed bytes 0 out end after → end ≡ length bytes
-front_end p = omega (arith, p.ends)

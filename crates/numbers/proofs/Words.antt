@@ -3,7 +3,7 @@ use mathlib.Core.Path.{◌≡◌, refl, sym, ap, ap₂, ◌∙◌}
 use mathlib.Core.List.{List, [], ◌∷◌, ◌++◌}
 use Prim.Native.Nat.{ℕ, zero, suc, ◌+◌, ◌*◌, ◌/◌, ◌%◌, ◌^◌, ◌<◌, ◌≤◌}
 use native.Mathlib.Decide.{dec_lt}
-use native.Mathlib.Nat.{one-le-pow, pow-succ', mod-one, mod-eq_of_lt, mul_assoc, mul-add-div_right, mul-add-mod_self_right}
+use native.Mathlib.Nat.{one-le-pow, pow-succ', div-one, mod-one, mod-eq_of_lt, mul_assoc, mul-add-div_right, mul-add-mod_self_right}
 use native.Mathlib.Numerals.{add-one}
 use native.Mathlib.Omega.{arith}
 use lib.Arith.{digits_lt, digits_div, mod-mul}
@@ -11,6 +11,7 @@ use lib.Dec.{lit<}
 use lib.ListN.{length, get_or, take, drop, length-append, length-take, length-drop, get_or-eq_default}
 use lib.Pow.{pow-add}
 use lib.Seq.{length-take-le, take-add, drop-drop, drop-cons, get_or-take, get_or-drop}
+use Rattle.std.specs.Int.{bytes_high_first}
 use Rattle.numbers.specs.Words.{word16, word32, word64, bytes_of, Bytes}
 
 -- the number in bytes, the high byte first
@@ -32,6 +33,13 @@ pub number_of_bytes : (n x : ℕ) → number (bytes_of n x) ≡ x % 256 ^ n
 unfolding number bytes_of
 number_of_bytes zero x = sym (mod-one x)
 number_of_bytes (suc n) x = rw (bytes_length n x, number_of_bytes n x, pow-succ') (sym (mod-mul x (lit< tt) (power n)))
+
+-- as the library tells the bytes of a number
+pub high_first : (n x : ℕ) → bytes_high_first n x ≡ bytes_of n x
+unfolding bytes_of
+high_first zero x = refl
+high_first (suc zero) x = rw div-one
+high_first (suc (suc n)) x = rw (high_first (suc n) x)
 
 -- ---- the number in bytes has these bytes
 

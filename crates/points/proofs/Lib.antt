@@ -1,3 +1,4 @@
-pub mod PointKinds
+pub mod Classes
 pub mod Indexes
+pub mod PointKinds
 pub mod TooLarge

@@ -5,7 +5,6 @@ use Rattle.numbers.specs.PointNumbers.{number_length, is_number}
 use Rattle.numbers.specs.Slots.{slots_of_day, window_slots}
 use Rattle.readings.specs.Readings.{reading_count, first_large}
 use Rattle.heads.specs.Limits.{low_class, extra_high_class, most_baseline, most_share}
-use Rattle.points.specs.declared.Refusal.{Refusal}
 
 -- a point: its tag and its value
 pub record Point : Type 0 where
@@ -190,6 +189,11 @@ is_of_reading refusal = eqb refusal 51 || eqb refusal 52
 -- 'The index is 0 in every other answer of adding and of writing a point.'
 abbrev pub index_told : ℕ → ℕ → List ℕ → ℕ
 index_told refusal tag value = cond (is_of_reading refusal) (large_at (kind_of tag) value) 0
+
+-- what is told of a point: the number of a refusal, 0 is accepted, and the index of the reading that it is about, 0 where it is about none
+pub record Refusal : Type 0 where
+  pub number : ℕ
+  pub index : ℕ
 
 -- a refusal of a tag and value, with its index
 abbrev pub with_index : ℕ → ℕ → List ℕ → Refusal

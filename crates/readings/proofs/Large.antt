@@ -1,9 +1,9 @@
 -- The first reading that is too large. Assumes nothing.
-use mathlib.Core.Path.{◌≡◌, refl, sym, ap, ◌∙◌}
+use mathlib.Core.Path.{◌≡◌, refl}
 use mathlib.Core.Bool.{Bool, true, false, cond}
 use mathlib.Core.List.{List}
-use Prim.Native.Nat.{ℕ, zero, suc, ◌+◌, ◌-◌, ◌*◌, ◌<◌, ◌≤◌}
-use native.Mathlib.Nat.{zero-add, add-zero, add_assoc, suc-add}
+use Prim.Native.Nat.{ℕ, zero, suc, ◌+◌, ◌*◌, ◌<◌, ◌≤◌}
+use native.Mathlib.Nat.{zero-add, add-zero, add_assoc}
 use native.Mathlib.Omega.{arith}
 use lib.Dec.{ltb}
 use lib.ListN.{drop}
@@ -45,61 +45,6 @@ module _ (readings : List ℕ) where
       go : (t : Bool) → ltb most_reading (word32 readings (i * reading_length)) ≡ t → (word32 readings (i * reading_length) ≤ most_reading) × (from (i + 1) n ≡ n)
       go true p = absurd (omega (arith, stop i n (ltb-true _ _ p)))
       go false p = let h = ltb-false _ _ p in (h, omega (arith, pass i n h))
-
-  -- k readings that fit are passed together
-  pub pass_all : (k i n : ℕ) → from i k ≡ k → from i (k + n) ≡ k + from (i + k) n
-  pass_all zero i n e = rw (zero-add, add-zero, zero-add)
-  pass_all (suc k) i n e =
-      let f = fits i k e in
-      let j : i + 1 + k ≡ i + suc k = omega arith in
-      rw (suc-add, suc-add) (pass i (k + n) f.0 ∙ ap suc (pass_all k (i + 1) n f.1 ∙ rw j))
-
-  -- and with those behind them
-  pub join : (k n i : ℕ) → from i k ≡ k → from (i + k) n ≡ n → from i (k + n) ≡ k + n
-  join k n i e f = pass_all k i n e ∙ ap (λ m. k + m) f
-
-  -- one that is found among the first k
-  found_within : (k i n : ℕ) → from i k < k → from i (k + n) ≡ from i k
-  found_within zero i n h = absurd (omega arith)
-  found_within (suc k) i n h = go (ltb most_reading (word32 readings (i * reading_length))) refl (found_within k (i + 1) n)
-    where
-      go : (t : Bool) → ltb most_reading (word32 readings (i * reading_length)) ≡ t → (from (i + 1) k < k → from (i + 1) (k + n) ≡ from (i + 1) k)
-          → from i (suc k + n) ≡ from i (suc k)
-      go true p r = let l = ltb-true _ _ p in rw suc-add (stop i (k + n) l ∙ sym (stop i k l))
-      go false p r =
-          let l = ltb-false _ _ p in
-          rw suc-add (pass i (k + n) l ∙ ap suc (r (omega (arith, pass i k l))) ∙ sym (pass i k l))
-
-  -- a loop's turn: what is left of n readings
-  module _ (i n : ℕ) where
-    pub left_pass : (k : ℕ) → i + k ≤ n → from i k ≡ k → i + from i (n - i) ≡ i + k + from (i + k) (n - (i + k))
-    left_pass k h e =
-        let m : n - i ≡ k + (n - (i + k)) = omega arith in
-        rw (m, pass_all k i (n - (i + k)) e) (omega arith)
-
-    pub left_stop : i < n → most_reading < word32 readings (i * reading_length) → i + from i (n - i) ≡ i
-    left_stop h l = let m : n - i ≡ suc (n - i - 1) = omega arith in rw (m, stop i (n - i - 1) l) (add-zero i)
-
-    -- a loop's turn that looks at k readings one by one
-    pub left_none_in : (k found : ℕ) → found ≡ i + from i (i + k - i) → i + k ≤ found → from i k ≡ k
-    left_none_in k found e h =
-        let m : i + k - i ≡ k = omega arith in
-        omega (arith, first_bound (drop (i * reading_length) readings) k, rw m at e)
-
-    pub left_found_in : (k found : ℕ) → found ≡ i + from i (i + k - i) → found < i + k → i + k ≤ n → i + from i (n - i) ≡ found
-    left_found_in k found e h l =
-        let m : i + k - i ≡ k = omega arith in
-        let f : found ≡ i + from i k = rw m at e in
-        let t : n - i ≡ k + (n - (i + k)) = omega arith in
-        rw (t, found_within k i (n - (i + k)) (omega arith)) (omega arith)
-
-    pub left_none : n ≤ i → i + from i (n - i) ≡ i
-    unfolding first_large
-    left_none h = let m : n - i ≡ 0 = omega arith in rw m (add-zero i)
-
-  pub one_fits : (i : ℕ) → word32 readings (i * reading_length) ≤ most_reading → from i 1 ≡ 1
-  unfolding first_large
-  one_fits i h = pass i 0 h
 
   in_limit : (n i j : ℕ) → from i n ≡ n → j < n → word32 readings ((i + j) * reading_length) ≤ most_reading
   in_limit zero i j e h = absurd (omega arith)

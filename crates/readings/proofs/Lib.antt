@@ -1,4 +1,4 @@
 pub mod Sums
 pub mod Large
-pub mod Packing
+pub mod FourBytes
 pub mod Bounds

@@ -7,19 +7,21 @@ use native.Mathlib.Numerals.{add-one}
 use native.Mathlib.Omega.{arith}
 use lib.ListN.{length, get_or, drop, drop_of_length-le}
 use lib.Seq.{drop-cons}
+use Rattle.std.specs.List.{range_with_len}
+use Rattle.std.specs.List as list
 use Rattle.numbers.specs.Lists.{run, sum}
-use Rattle.numbers.proofs.Filling.{sum_more}
+use Rattle.numbers.proofs.Chains.{sum_is, map_is}
 
 module _ (f : ℕ → ℕ) where
-  pub six : (i : ℕ) → sum (run f i 6) ≡ f i + f (i + 1) + f (i + 2) + f (i + 3) + f (i + 4) + f (i + 5)
-  unfolding run sum
-  six i = sum_more f i 5 ∙ rw (sum_more f i 4, sum_more f i 3, sum_more f i 2, sum_more f i 1, sum_more f i 0, zero-add, add-zero)
-
   -- the same values, counted from another number on
   pub run_shift : (c i n : ℕ) → run (λ k. f (c + k)) i n ≡ run f (c + i) n
   unfolding run
   run_shift c i zero = refl
   run_shift c i (suc n) = ap (λ xs. f (c + i) ∷ xs) (run_shift c (suc i) n ∙ rw add-suc)
+
+  -- what `sum` gives of a `map` over a range
+  pub sum_mapped : (i n : ℕ) → list.sum (map (λ k. f (i + k)) (range_with_len 0 n)) ≡ sum (run f i n)
+  sum_mapped i n = sum_is (map (λ k. f (i + k)) (range_with_len 0 n)) ∙ rw (map_is, run_shift i 0 n, add-zero)
 
   -- how large a run's values and their sum are
   pub run_within : (b i n : ℕ) → ((j : ℕ) → j < n → f (i + j) ≤ b) → (k : ℕ) → get_or (run f i n) k 0 ≤ b

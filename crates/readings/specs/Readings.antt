@@ -63,11 +63,7 @@ earlier_use readings s = window_sum readings (earlier_slot s) 0
 abbrev pub Back : List ℕ → Type 0
 Back days = (i : ℕ) → get_or days i 0 ≤ days_back
 
--- what contracts require: a consumer's readings with a slot of the day, and with the first slot of a window within the day
-pub record HasSlot (readings : List ℕ) (slot : ℕ) : Type 0 where
-  pub size : length readings ≡ readings_length
-  pub within : slot < slots_of_day
-
+-- a consumer's readings, with the first slot of a window within the day
 pub record HasWindow (readings : List ℕ) (slot : ℕ) : Type 0 where
   pub size : length readings ≡ readings_length
   pub last : slot ≤ last_window

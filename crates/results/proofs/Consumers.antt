@@ -5,20 +5,18 @@ use mathlib.Core.List.{List}
 use Prim.Native.Nat.{ℕ, ◌+◌, ◌-◌, ◌≤◌}
 use native.Mathlib.Omega.{arith}
 use lib.Dec.{leb}
-use lib.IntN.{pos}
-use lib.ListN.{length, get_or, take, drop, replicate, length-drop}
+use lib.ListN.{length, get_or, take, drop, length-drop}
 use mir.Facts.{leb_yes}
-use borrow.Author.Tests.{not-false}
+use borrow.Author.Tests.{not-false, le-ltb}
+use Rattle.std.specs.Prelude.{Some, None}
 use Rattle.numbers.specs.Lists.{run}
-use Rattle.numbers.specs.Slots.{no_days}
+use Rattle.numbers.specs.Slots.{days_used}
 use Rattle.numbers.proofs.Parts.{rest_of}
 use Rattle.numbers.proofs.Refusals.{untold}
 use Rattle.calendar.specs.Dates.{is_date}
 use Rattle.readings.specs.Readings.{reading}
 use Rattle.choosing.specs.Choosing.{is_few}
-use Rattle.choosing.specs.Days.{AtMost, choice}
-use Rattle.choosing.specs.declared.Chosen.{Chosen}
-use Rattle.choosing.proofs.Choices.{few_days, four_days}
+use Rattle.choosing.specs.Days.{AtMost}
 use Rattle.baseline.specs.Baseline.{chosen_days, baselines_on}
 use Rattle.baseline.specs.Consumers.{Tested, most_consumer_baseline}
 use Rattle.baseline.proofs.Bounds.{baselines_bound}
@@ -56,22 +54,26 @@ module _ {h : Head} {marks v : List ℕ} (p : Passed h marks consumer v) where
   abbrev pub handed : List ℕ
   handed = take (length v - consumer_readings_at) (drop consumer_readings_at v)
 
-  -- by the answer of the day choice, for the count of the test day
-  module _ {test : ℕ} {answer : Chosen} (t : test ≡ test_day h) (e : answer ≡ choice (chosen_days test marks handed h.slot)) where
-    is_choice : answer ≡ choice (days_of h marks v)
-    is_choice = e ∙ rw (t, rest_of v consumer_readings_at)
+  -- by the days that are chosen for the count of the test day
+  module _ {test : ℕ} (t : test ≡ test_day h) where
+    are_days : chosen_days test marks handed h.slot ≡ days_of h marks v
+    are_days = rw (t, rest_of v consumer_readings_at)
 
-    pub too_few : answer.enough ≡ false → found_of h marks consumer v ≡ record { enough = false; found = replicate 6 (pos 0); days = no_days }
+    pub too_few : is_few (chosen_days test marks handed h.slot) ≡ true → found_of h marks consumer v ≡ None
     unfolding found_of
-    too_few f = rw (few_days _ _ is_choice f)
+    too_few few = rw (rw are_days at few)
 
-    -- and by that of the baseline on its days
-    module _ (f : answer.enough ≡ true) {slots : List ℕ} (b : slots ≡ baselines_on handed answer.days h.slot) where
-      four : (is_few (days_of h marks v) ≡ false) × (answer.days ≡ days_of h marks v)
-      four = four_days _ _ is_choice f
+    -- and by the baseline on four of them
+    module _ {four : List ℕ} (size : length four ≡ days_used) (chosen : four ≡ chosen_days test marks handed h.slot)
+        {slots : List ℕ} (b : slots ≡ baselines_on handed four h.slot) where
+      four_are : four ≡ days_of h marks v
+      four_are = chosen ∙ are_days
+
+      enough : is_few (days_of h marks v) ≡ false
+      enough = le-ltb _ _ (omega (arith, ap (length {A = ℕ}) four_are))
 
       on_days : slots ≡ baselines_on (drop consumer_readings_at v) (days_of h marks v) h.slot
-      on_days = b ∙ rw (rest_of v consumer_readings_at, four.1)
+      on_days = b ∙ rw (rest_of v consumer_readings_at, four_are)
 
       pub baselines_small : AtMost most_consumer_baseline slots
       baselines_small =
@@ -87,6 +89,6 @@ module _ {h : Head} {marks v : List ℕ} (p : Passed h marks consumer v) where
           ∙ ap (λ bases. run (consumer_slot (loss_of h v) bases readings h.slot) 0 6) (sym on_days)
 
       pub consumer_results : found_of h marks consumer v
-          ≡ record { enough = true; found = run (consumer_slot (loss_of h v) slots (drop consumer_readings_at v) h.slot) 0 6; days = answer.days }
+          ≡ Some (record { found = run (consumer_slot (loss_of h v) slots (drop consumer_readings_at v) h.slot) 0 6; days = four })
       unfolding found_of
-      consumer_results = rw (four.1, four.0, by_slots)
+      consumer_results = rw (enough, by_slots, four_are)

@@ -1,6 +1,6 @@
 -- Slot results in steps, as the code takes them: words that contracts use, and no rule of its own.
-use Rattle.std.specs.Prelude.{◌≡◌, true, false, cond, not, List, map, ℕ, ◌+◌, ℤ, pos, length, get_or, replicate}
-use Rattle.numbers.specs.Slots.{no_days, window_slots}
+use Rattle.std.specs.Prelude.{◌≡◌, false, cond, List, map, ℕ, ◌+◌, ℤ, Option, Some, None, length, get_or}
+use Rattle.numbers.specs.Slots.{no_days}
 use Rattle.readings.specs.Readings.{reading}
 use Rattle.heads.specs.Heads.{content_refusal}
 use Rattle.heads.specs.declared.Head.{Head}
@@ -22,12 +22,10 @@ consumer_slot loss slots readings slot j = rounded (consumer_quotient loss (get_
 
 -- the answer of a kind of point that needs no days
 abbrev pub all_found : List Quotient → Found
-all_found six = record { enough = true; found = map rounded six; days = no_days }
+all_found six = record { found = map rounded six; days = no_days }
 
--- the answer of a point: its six results and its days, or zeros where there are not four days
-unfoldable pub found_of : Head → List ℕ → Kind → List ℕ → Found
-found_of h marks kind value = record {
-  enough = not (lacks_days h marks kind value);
-  found = cond (lacks_days h marks kind value) (replicate window_slots (pos 0)) (results h marks kind value);
-  days = cond (lacks_days h marks kind value) no_days (days_told h marks kind value);
-}
+-- the answer of a point: its six results and its days, or none where there are not four days
+unfoldable pub found_of : Head → List ℕ → Kind → List ℕ → Option Found
+found_of h marks kind value =
+    cond (lacks_days h marks kind value) None
+    (Some (record { found = results h marks kind value; days = days_told h marks kind value }))

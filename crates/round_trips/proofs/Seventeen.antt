@@ -17,10 +17,9 @@ use Rattle.ledger.specs.declared.State.{State}
 use Rattle.ledger.specs.declared.Closed.{Closed}
 use Rattle.ledger.proofs.Sound.{open_refusal, close_refusal}
 use Rattle.calls.proofs.TooLarge.{adding_not_seventeen}
-use Rattle.fields.specs.Fields.{tag_at, length_due, field_tests, field_refusal, field_of}
+use Rattle.fields.specs.Fields.{tag_at, length_due, field_tests, field_refusal, Value, Refused, field_of}
 use Rattle.fields.specs.declared.Due.{Due}
 use Rattle.fields.specs.declared.Due.TheVariants as due
-use Rattle.fields.specs.declared.Field.TheVariants.{Value, Refused}
 use Rattle.writing.specs.Writing.{head_writing_tests, head_writing_refusal}
 use Rattle.writing.proofs.TooLarge.{writing_not_seventeen}
 use Rattle.book.specs.Reading.{Reading, refused, good, ◌>>=◌, unless, Part, handed_on, field, open_test, add_point, Points, Book, read_points, read_book}

@@ -1,5 +1,5 @@
 -- The writing calls, one behind the other. Assumes nothing.
-use mathlib.Core.Path.{◌≡◌, refl, sym, ap, ap₂, ◌∙◌}
+use mathlib.Core.Path.{◌≡◌, refl, ap, ap₂, ◌∙◌}
 use mathlib.Core.List.{List, [], ◌∷◌, ◌++◌, map}
 use Prim.Native.Nat.{ℕ, ◌≤◌}
 use native.Mathlib.Omega.{arith}
@@ -15,7 +15,7 @@ use Rattle.points.specs.Points.{Point}
 use Rattle.points.proofs.PointKinds.{values_numbered}
 use Rattle.fields.specs.Fields.{written}
 use Rattle.writing.specs.Writing.{room_row, written_head, value_writing_tests, point_writing_refusal, point_writing_out}
-use Rattle.writing.proofs.Storing.{head_written, written_length}
+use Rattle.writing.proofs.Storing.{head_put, head_written, written_length}
 use Rattle.round_trips.specs.Demand2.{head_room, room_for, written_book, Each}
 use Rattle.round_trips.specs.WritingCalls.{points_out, points_answers, book_out, book_answers, WritingCalls}
 use Rattle.round_trips.proofs.RoundTrips.{Takes, written_points, head_opens}
@@ -72,9 +72,10 @@ writing_calls b head taken out h =
     let size : length first ≡ head_room =
     length-append (written 1 b.head) (written 2 b.calendar) ∙ omega (arith, written_length 1 b.head, written_length 2 b.calendar) in
     let both = length-append first (written_points b.points) in
-    let wrote = head_written b.head b.calendar out opens (omega arith) in
+    let accepted = head_written b.head b.calendar out opens (omega arith) in
+    let put = head_put b.head b.calendar out accepted in
     let i = points_wrote b.points (drop (length first) out) taken (omega (arith, length-drop (length first) out)) in
     record {
-      bytes = rw (← wrote.1) (then_bytes first out head_room b.points size i);
-      answers = ap₂ (λ told rest. told ∷ rest) (sym wrote.0) (rw (← wrote.1) (then_answers first out head_room b.points size i));
+      bytes = rw put (then_bytes first out head_room b.points size i);
+      answers = ap₂ (λ told rest. told ∷ rest) accepted (rw put (then_answers first out head_room b.points size i));
     }

@@ -23,7 +23,7 @@ pub extern "C" fn tembuyas_write_head(head: &[u8], calendar: &[u8], out: &mut [u
     ensures value { result ≡ head_writing_refusal head.now calendar.now (length out.old) }
     ensures out_after { out.new ≡ head_writing_out head.now calendar.now out.old }
 {
-    writing::write_head(head, calendar, out)
+    refusals::number_told(writing::write_head(head, calendar, out))
 }
 
 // Writes a point's field. The low 32 bits of the answer are the refusal, the high 32 bits the index.
@@ -33,6 +33,8 @@ pub extern "C" fn tembuyas_write_point(tag: u8, value: &[u8], out: &mut [u8]) ->
     ensures index { result / 2 ^ 32 ≡ (point_writing_answer tag value.now (length out.old)).index }
     ensures lent { out.new ≡ point_writing_out tag value.now out.old }
 {
-    let answer = writing::write_point(tag, value, out);
-    (answer.index as u64) * INDEX_UNIT + (answer.number as u64)
+    match writing::write_point(tag, value, out) {
+        Ok(()) => 0,
+        Err(refusal) => u64::from(refusal.index()) * INDEX_UNIT + u64::from(refusal.number()),
+    }
 }

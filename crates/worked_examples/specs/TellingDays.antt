@@ -2,7 +2,7 @@
 use Rattle.std.specs.Prelude.{List, [], ◌∷◌, ◌++◌, ℕ, replicate}
 use Rattle.ledger.specs.States.{no_state}
 use Rattle.ledger.specs.Operations.{add_of}
-use Rattle.ledger.specs.declared.Added.{Added}
+use Rattle.ledger.specs.Operations.{Added}
 use Rattle.worked_examples.specs.Examples.{Example, plain, state_with, high_voltage, Hold}
 use Rattle.worked_examples.specs.Sequences.{generator_of, mixed_firing_of, outside_tariff, inside_tariff}
 

@@ -3,7 +3,7 @@ use Rattle.std.specs.Prelude.{List, [], ◌∷◌, ◌++◌, ℕ, replicate}
 use Rattle.numbers.specs.Lists.{gather}
 use Rattle.numbers.specs.Words.{bytes_of}
 use Rattle.ledger.specs.Operations.{add_of}
-use Rattle.ledger.specs.declared.Added.{Added}
+use Rattle.ledger.specs.Operations.{Added}
 use Rattle.worked_examples.specs.Examples.{Example, plain, state_with, Hold}
 use Rattle.worked_examples.specs.Sequences.{generator_of, mixed_firing_of, outside_tariff, inside_tariff, last_too_large}
 

@@ -9,7 +9,7 @@ use Rattle.ledger.specs.Operations.{open_of, adding_refusal, results_of, days_to
 use Rattle.calls.specs.Calls.{Call, adding, closing, Reply, accepted, closed, reply_of, program, points_taken}
 use Rattle.calls.specs.Totals.{Holds}
 use Rattle.ledger.specs.declared.State.{State}
-use Rattle.ledger.specs.declared.Added.{Added}
+use Rattle.ledger.specs.Operations.{Added}
 use Rattle.account.specs.Demand3.{Demand3Of}
 use Rattle.worked_examples.specs.Sequences.{two_points, generator_of}
 

@@ -1,11 +1,11 @@
--- Writing: a field stored byte by byte, and two fields one behind the other. Assumes nothing.
-use mathlib.Core.Path.{◌≡◌, refl, ap, ◌∙◌}
+-- Writing: a field stored part by part, and two fields one behind the other. Assumes nothing.
+use mathlib.Core.Path.{◌≡◌, ap, ◌∙◌}
 use mathlib.Core.List.{List, [], ◌∷◌, ◌++◌, append-nil}
-use Prim.Native.Nat.{ℕ, suc, ◌+◌, ◌-◌, ◌≤◌, ◌<◌}
+use Prim.Native.Nat.{ℕ, ◌+◌, ◌-◌, ◌≤◌, ◌<◌}
 use native.Mathlib.Omega.{arith}
 use borrow.Author.Tests.{lt-ltb, le-ltb, ne_eqb}
-use lib.ListN.{length, get_or, set, take, drop, drop_of_length-le, length-drop, length-set}
-use lib.Seq.{paste, take_all, take-length, take_at, drop_at, drop-drop}
+use lib.ListN.{length, set, take, drop, drop_of_length-le, length-drop}
+use lib.Seq.{take_all, take_at, drop_at, drop-drop}
 use borrow.Rule.Slice.PartMut.{put_mid}
 use Rattle.numbers.specs.Words.{bytes_of}
 use Rattle.numbers.specs.Placing.{at_front}
@@ -19,46 +19,41 @@ use Rattle.writing.specs.Writing.{head_room, room_row, written_head, head_writin
 -- ---- the answer and the lent bytes, in each case
 
 module _ (h c out : List ℕ) where
-  abbrev HeadAnswer : ℕ → List ℕ → Type 0
-  HeadAnswer refusal bytes = (refusal ≡ head_writing_refusal h c (length out)) × (bytes ≡ head_writing_out h c out)
-
-  head_told : (opening_refusal h c ≡ 0 → ⊥) → head_writing_refusal h c (length out) ≡ opening_refusal h c
+  pub head_refused : (opening_refusal h c ≡ 0 → ⊥) → head_writing_refusal h c (length out) ≡ opening_refusal h c
   unfolding head_writing_refusal opening_refusal
-  head_told n = told (opening_tests h c) (room_row (length out) head_room) n
+  head_refused n = told (opening_tests h c) (room_row (length out) head_room) n
 
-  pub head_refused : (opening_refusal h c ≡ 0 → ⊥) → HeadAnswer (opening_refusal h c) out
+  pub head_kept : (head_writing_refusal h c (length out) ≡ 0 → ⊥) → head_writing_out h c out ≡ out
   unfolding head_writing_out
-  head_refused n = rw (head_told n) (refl, simp (ne_eqb _ _ n))
+  head_kept n = simp (ne_eqb _ _ n)
+
+  pub head_put : head_writing_refusal h c (length out) ≡ 0 → head_writing_out h c out ≡ at_front (written_head h c) out
+  unfolding head_writing_out
+  head_put e = rw e
 
   module _ (e : opening_refusal h c ≡ 0) where
     head_passed : head_writing_refusal h c (length out) ≡ first_told (room_row (length out) head_room)
     unfolding head_writing_refusal opening_refusal
     head_passed = passed (opening_tests h c) (room_row (length out) head_room) tt e
 
-    pub head_room_lem : length out < head_room → HeadAnswer 40 out
-    unfolding head_writing_out
-    head_room_lem k = rw (head_passed, lt-ltb (length out) head_room k) (refl, refl)
+    pub head_without_room : length out < head_room → head_writing_refusal h c (length out) ≡ 40
+    head_without_room k = head_passed ∙ rw (lt-ltb (length out) head_room k)
 
-    pub head_written : head_room ≤ length out → HeadAnswer 0 (at_front (written_head h c) out)
-    unfolding head_writing_out
-    head_written k = rw (head_passed, le-ltb (length out) head_room k) (refl, refl)
+    pub head_written : head_room ≤ length out → head_writing_refusal h c (length out) ≡ 0
+    head_written k = head_passed ∙ rw (le-ltb (length out) head_room k)
+
+pub ruleset head_answers = (head_refused, head_kept, head_put, head_without_room, head_written)
 
 -- ---- one field
 
--- the lent bytes once the header stands
-abbrev pub headed : List ℕ → ℕ → List ℕ → List ℕ
-headed out tag size = set (set (set out 0 tag) 1 (get_or size 0 0)) 2 (get_or size 1 0)
-
-pub headed_length : (out : List ℕ) (tag : ℕ) (size : List ℕ) → length (headed out tag size) ≡ length out
-headed_length out tag size = simp length-set
-
-pub headed_value : (out value : List ℕ) (tag : ℕ) → 3 + length value ≤ length out
-    → paste (headed out tag (bytes_of 2 (length value))) 3 value (length value) ≡ at_front (written tag value) out
+-- the header, then the value behind it
+pub stored : (out value : List ℕ) (tag : ℕ) → 3 + length value ≤ length out
+    → put_mid 3 (3 + length value - 3) (put_mid 1 2 (set out 0 tag) (bytes_of 2 (length value))) value ≡ at_front (written tag value) out
 unfolding bytes_of
-headed_value [] value tag h = absurd (omega arith)
-headed_value (x ∷ []) value tag h = absurd (omega arith)
-headed_value (x ∷ y ∷ []) value tag h = absurd (omega arith)
-headed_value (x ∷ y ∷ z ∷ out) value tag h = let e : 3 + length value ≡ suc (suc (suc (length value))) = omega arith in rw (e, take-length value)
+stored [] value tag h = absurd (omega arith)
+stored (x ∷ []) value tag h = absurd (omega arith)
+stored (x ∷ y ∷ []) value tag h = absurd (omega arith)
+stored (x ∷ y ∷ z ∷ out) value tag h = let e : 3 + length value - 3 ≡ length value = omega arith in rw e
 
 pub written_length : (tag : ℕ) (value : List ℕ) → length (written tag value) ≡ 3 + length value
 unfolding bytes_of

@@ -3,8 +3,7 @@ use Rattle.std.specs.Prelude.{Bool, cond, List, [], ◌∷◌, ◌++◌, ℕ, �
 use Rattle.numbers.specs.Refusals.{first_told}
 use Rattle.numbers.specs.Placing.{at_front}
 use Rattle.heads.specs.Heads.{head_tag, calendar_tag, opening_tests}
-use Rattle.points.specs.Points.{number_of, form_rows, number_row, value_rows, with_index}
-use Rattle.points.specs.declared.Refusal.{Refusal}
+use Rattle.points.specs.Points.{number_of, form_rows, number_row, value_rows, with_index, Refusal}
 use Rattle.fields.specs.Fields.{header_length, written}
 
 -- '40: too few bytes'

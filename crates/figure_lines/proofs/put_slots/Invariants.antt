@@ -1,15 +1,11 @@
--- The lines of the slots before i stand.
-use Rattle.std.proofs.Common.{◌≤◌, ◌+◌, ◌*◌, ◌-◌, take}
-use Rattle.numbers.specs.Placing.{Placed}
+-- The lines of the slots from i on are those that are still to come.
+use Rattle.std.proofs.Common.{◌≡◌, ◌+◌, ◌*◌, ◌≤◌, ◌++◌, drop}
+use Rattle.arrayvec.specs.ArrayVec.{array_vec_len}
 use Rattle.figure_lines.specs.FigureLines.{slot_lines}
 use Rattle.figure_lines.proofs.put_slots.Given as goal
 
 abbrev pub invariant-loop-i : goal.invariant-loop-i
-invariant-loop-i l = record {
-  to : l.i ≤ 6;
-  bound : l.end ≤ l.at + 48 * l.i;
-  stand : Placed (slot_lines 1 (take l.i l.totals)) l.at l.initial.out l.end l.out;
+invariant-loop-i g l = record {
+  to_come : l.text.items ++ slot_lines (1 + l.i) (drop l.i l.total-items) ≡ l.initial.text.items ++ slot_lines 1 l.total-items;
+  bound : array_vec_len l.text ≤ array_vec_len l.initial.text + 47 * l.i;
 }
-
-abbrev pub decreases-loop-i : goal.decreases-loop-i
-decreases-loop-i l = 6 - l.i

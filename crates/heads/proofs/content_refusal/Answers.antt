@@ -1,10 +1,13 @@
 -- Six groups of rows, one after the other: each tells its number or is passed.
-use mathlib.Core.Path.{◌≡◌, sym, ◌∙◌}
+use mathlib.Core.Path.{◌≡◌, refl, sym, ◌∙◌}
+use borrow.Author.Rules.{rules}
 use mathlib.Core.Bool.{Bool}
 use mathlib.Core.List.{List, ◌++◌}
 use Prim.Native.Nat.{ℕ}
 use Rattle.numbers.specs.Refusals.{first_told}
 use Rattle.numbers.proofs.Refusals.{tells, passes}
+use Rattle.refusals.specs.Told.{number_of, number_told}
+use Rattle.refusals.proofs.Refused.{refused}
 use Rattle.calendar.specs.Eligible.{mark_row}
 use Rattle.heads.specs.Heads.{day_rows, slot_row, loss_row, contract_row, counts, count_row, content_refusal}
 use Rattle.heads.specs.declared.Head.{Head}
@@ -30,70 +33,76 @@ module _ (head : Head) (marks : List ℕ) where
 
   -- ---- behind a group that is passed the next one tells
 
-  slot_next : {n : ℕ} → n ≡ first_told (day_rows head) → n ≡ 0 → Told from_slot
+  slot_next : 0 ≡ first_told (day_rows head) → Told from_slot
   unfolding content_refusal
-  slot_next e z = passes (day_rows head) from_slot e tt z
+  slot_next e = passes (day_rows head) from_slot e tt refl
 
-  loss_next : {n : ℕ} → n ≡ first_told (slot_row head.slot) → n ≡ 0 → Told from_slot → Told from_loss
-  loss_next e z told = told ∙ passes (slot_row head.slot) from_loss e tt z
+  loss_next : 0 ≡ first_told (slot_row head.slot) → Told from_slot → Told from_loss
+  loss_next e told = told ∙ passes (slot_row head.slot) from_loss e tt refl
 
-  contract_next : {n : ℕ} → n ≡ first_told (loss_row head.losses) → n ≡ 0 → Told from_loss → Told from_contract
-  contract_next e z told = told ∙ passes (loss_row head.losses) from_contract e tt z
+  contract_next : 0 ≡ first_told (loss_row head.losses) → Told from_loss → Told from_contract
+  contract_next e told = told ∙ passes (loss_row head.losses) from_contract e tt refl
 
-  count_next : {n : ℕ} → n ≡ first_told (contract_row head.contract) → n ≡ 0 → Told from_contract → Told from_count
-  count_next e z told = told ∙ passes (contract_row head.contract) from_count e tt z
+  count_next : 0 ≡ first_told (contract_row head.contract) → Told from_contract → Told from_count
+  count_next e told = told ∙ passes (contract_row head.contract) from_count e tt refl
 
-  marks_next : {n : ℕ} → n ≡ first_told (count_row counts head.count) → n ≡ 0 → Told from_count → Told (mark_row marks)
-  marks_next e z told = told ∙ passes (count_row counts head.count) (mark_row marks) e tt z
+  marks_next : 0 ≡ first_told (count_row counts head.count) → Told from_count → Told (mark_row marks)
+  marks_next e told = told ∙ passes (count_row counts head.count) (mark_row marks) e tt refl
 
 -- ---- the ways out
 
-pub returns-then-day-ne-ACCEPTED : goal.returns-then-day-ne-ACCEPTED
+pub returns-in_err-day_refusal : goal.returns-in_err-day_refusal
 unfolding content_refusal
-returns-then-day-ne-ACCEPTED c =
-    let h = c.args.head in
-    tells (day_rows h) (from_slot h c.args.marks) c.day_refusal-day.ensures c.if-day-ne-ACCEPTED.true
-
-pub returns-then-slot-ne-ACCEPTED : goal.returns-then-slot-ne-ACCEPTED
-returns-then-slot-ne-ACCEPTED c =
+returns-in_err-day_refusal c =
     let h = c.args.head in
     let m = c.args.marks in
-    let at_slot = slot_next h m c.day_refusal-day.ensures c.if-day-ne-ACCEPTED.false in
-    tells (slot_row h.slot) (from_loss h m) c.slot_refusal-slot.ensures c.if-slot-ne-ACCEPTED.true ∙ sym at_slot
+    let sent : number_told c.from_residual.result ≡ number_of c.in_err-day_refusal.field-0.0 = search rules in
+    sent ∙ tells (day_rows h) (from_slot h m) c.in_err-day_refusal.ensures (refused _)
 
-pub returns-then-loss-ne-ACCEPTED : goal.returns-then-loss-ne-ACCEPTED
-returns-then-loss-ne-ACCEPTED c =
+pub returns-in_err-slot_refusal : goal.returns-in_err-slot_refusal
+returns-in_err-slot_refusal c =
     let h = c.args.head in
     let m = c.args.marks in
-    let at_slot = slot_next h m c.day_refusal-day.ensures c.if-day-ne-ACCEPTED.false in
-    let at_loss = loss_next h m c.slot_refusal-slot.ensures c.if-slot-ne-ACCEPTED.false at_slot in
-    tells (loss_row h.losses) (from_contract h m) c.loss_refusal-loss.ensures c.if-loss-ne-ACCEPTED.true ∙ sym at_loss
+    let at_slot = slot_next h m c.in_ok-day_refusal.ensures in
+    let sent : number_told c.from_residual-in_err-slot_refusal.result ≡ number_of c.in_err-slot_refusal.field-0.0 = search rules in
+    sent ∙ tells (slot_row h.slot) (from_loss h m) c.in_err-slot_refusal.ensures (refused _) ∙ sym at_slot
 
-pub returns-then-contract-ne-ACCEPTED : goal.returns-then-contract-ne-ACCEPTED
-returns-then-contract-ne-ACCEPTED c =
+pub returns-in_err-loss_refusal : goal.returns-in_err-loss_refusal
+returns-in_err-loss_refusal c =
     let h = c.args.head in
     let m = c.args.marks in
-    let at_slot = slot_next h m c.day_refusal-day.ensures c.if-day-ne-ACCEPTED.false in
-    let at_loss = loss_next h m c.slot_refusal-slot.ensures c.if-slot-ne-ACCEPTED.false at_slot in
-    let at_contract = contract_next h m c.loss_refusal-loss.ensures c.if-loss-ne-ACCEPTED.false at_loss in
-    tells (contract_row h.contract) (from_count h m) c.contract_refusal-contract.ensures c.if-contract-ne-ACCEPTED.true ∙ sym at_contract
+    let at_slot = slot_next h m c.in_ok-day_refusal.ensures in
+    let at_loss = loss_next h m c.in_ok-slot_refusal.ensures at_slot in
+    let sent : number_told c.from_residual-in_err-loss_refusal.result ≡ number_of c.in_err-loss_refusal.field-0.0 = search rules in
+    sent ∙ tells (loss_row h.losses) (from_contract h m) c.in_err-loss_refusal.ensures (refused _) ∙ sym at_loss
 
-pub returns-then-count-ne-ACCEPTED : goal.returns-then-count-ne-ACCEPTED
-returns-then-count-ne-ACCEPTED c =
+pub returns-in_err-contract_refusal : goal.returns-in_err-contract_refusal
+returns-in_err-contract_refusal c =
     let h = c.args.head in
     let m = c.args.marks in
-    let at_slot = slot_next h m c.day_refusal-day.ensures c.if-day-ne-ACCEPTED.false in
-    let at_loss = loss_next h m c.slot_refusal-slot.ensures c.if-slot-ne-ACCEPTED.false at_slot in
-    let at_contract = contract_next h m c.loss_refusal-loss.ensures c.if-loss-ne-ACCEPTED.false at_loss in
-    let at_count = count_next h m c.contract_refusal-contract.ensures c.if-contract-ne-ACCEPTED.false at_contract in
-    tells (count_row counts h.count) (mark_row m) c.count_refusal-count.ensures c.if-count-ne-ACCEPTED.true ∙ sym at_count
+    let at_slot = slot_next h m c.in_ok-day_refusal.ensures in
+    let at_loss = loss_next h m c.in_ok-slot_refusal.ensures at_slot in
+    let at_contract = contract_next h m c.in_ok-loss_refusal.ensures at_loss in
+    let sent : number_told c.from_residual-in_err-contract_refusal.result ≡ number_of c.in_err-contract_refusal.field-0.0 = search rules in
+    sent ∙ tells (contract_row h.contract) (from_count h m) (rw c.from.ensures at c.in_err-contract_refusal.ensures) (refused _) ∙ sym at_contract
+
+pub returns-in_err-count_refusal : goal.returns-in_err-count_refusal
+returns-in_err-count_refusal c =
+    let h = c.args.head in
+    let m = c.args.marks in
+    let at_slot = slot_next h m c.in_ok-day_refusal.ensures in
+    let at_loss = loss_next h m c.in_ok-slot_refusal.ensures at_slot in
+    let at_contract = contract_next h m c.in_ok-loss_refusal.ensures at_loss in
+    let at_count = count_next h m (rw c.from.ensures at c.in_ok-contract_refusal.ensures) at_contract in
+    let sent : number_told c.from_residual-in_err-count_refusal.result ≡ number_of c.in_err-count_refusal.field-0.0 = search rules in
+    sent ∙ tells (count_row counts h.count) (mark_row m) c.in_err-count_refusal.ensures (refused _) ∙ sym at_count
 
 pub returns : goal.returns
 returns c =
     let h = c.args.head in
     let m = c.args.marks in
-    let at_slot = slot_next h m c.day_refusal-day.ensures c.if-day-ne-ACCEPTED.false in
-    let at_loss = loss_next h m c.slot_refusal-slot.ensures c.if-slot-ne-ACCEPTED.false at_slot in
-    let at_contract = contract_next h m c.loss_refusal-loss.ensures c.if-loss-ne-ACCEPTED.false at_loss in
-    let at_count = count_next h m c.contract_refusal-contract.ensures c.if-contract-ne-ACCEPTED.false at_contract in
-    c.marks_refusal.ensures ∙ sym (marks_next h m c.count_refusal-count.ensures c.if-count-ne-ACCEPTED.false at_count)
+    let at_slot = slot_next h m c.in_ok-day_refusal.ensures in
+    let at_loss = loss_next h m c.in_ok-slot_refusal.ensures at_slot in
+    let at_contract = contract_next h m c.in_ok-loss_refusal.ensures at_loss in
+    let at_count = count_next h m (rw c.from.ensures at c.in_ok-contract_refusal.ensures) at_contract in
+    c.marks_refusal.ensures ∙ sym (marks_next h m c.in_ok-count_refusal.ensures at_count)

@@ -1,56 +1,55 @@
 -- An early refusal, too few days, and the point taken.
 use mathlib.Core.Path.{◌≡◌, refl, ap, sym, ◌∙◌}
-use mathlib.Core.Bool.{false, not}
+use mathlib.Core.Bool.{false}
 use mathlib.Core.List.{List}
 use Prim.Native.Nat.{ℕ}
 use native.Mathlib.Omega.{arith}
 use lib.ListN.{length}
 use Rattle.points.specs.Points.{kind_of, with_index}
-use Rattle.points.specs.declared.Refusal.{Refusal}
 use Rattle.results.specs.SlotResults.{lacks_days}
+use Rattle.std.specs.Prelude.{Some}
 use Rattle.results.specs.Steps.{found_of}
 use Rattle.results.specs.declared.Found.{Found}
+use Rattle.refusals.proofs.Refused.{handed_on}
 use Rattle.ledger.specs.States.{taken}
 use Rattle.ledger.specs.Operations.{early_refusal, adding_refusal, results_of, days_told_of}
 use Rattle.ledger.specs.declared.State.{State}
-use Rattle.ledger.proofs.AddSteps.{days_lack, days_suffice, found_is, Early, early, took, places_good, refused, early_refused}
+use Rattle.ledger.proofs.AddSteps.{days_lack, days_suffice, Early, early, took, places_good, refused, early_refused}
 use Rattle.ledger.proofs.add.Goals as goal
 
 -- behind the early refusals
 module _ (state : State) (tag : ℕ) (value : List ℕ) (places : ℕ)
-    {r : Refusal} (told : r ≡ with_index (early_refusal state tag value places) tag value) (none : r.number ≡ 0) where
+    (none : record { number = 0; index = 0 } ≡ with_index (early_refusal state tag value places) tag value) where
   facts : Early state tag value places
-  facts = early state tag value places (sym (ap (λ r. r.number) told) ∙ none)
+  facts = early state tag value places (sym (ap (λ r. r.number) none))
 
   -- behind the choice of days
-  module _ {answer : Found} (is : answer ≡ found_of state.head state.marks (kind_of tag) value) (suffice : not answer.enough ≡ false) where
-    enough : lacks_days state.head state.marks (kind_of tag) value ≡ false
-    enough = days_suffice state.head state.marks (kind_of tag) value is suffice
-
-    found : (answer.found ≡ results_of state tag value) × (answer.days ≡ days_told_of state tag value)
-    found = found_is state.head state.marks (kind_of tag) value is enough
+  module _ {answer : Found} (is : Some answer ≡ found_of state.head state.marks (kind_of tag) value) where
+    found : (lacks_days state.head state.marks (kind_of tag) value ≡ false) × (answer.found ≡ results_of state tag value) × (answer.days ≡ days_told_of state tag value)
+    found = days_suffice state.head state.marks (kind_of tag) value is
 
     accepted : adding_refusal state tag value places ≡ 0
-    accepted = facts.days ∙ simp enough
+    accepted = facts.days ∙ simp found.0
 
-pub returns-then-refusal-ne-ACCEPTED : goal.returns-then-refusal-ne-ACCEPTED
-returns-then-refusal-ne-ACCEPTED c =
+pub returns-in_err-early_refusal : goal.returns-in_err-early_refusal
+returns-in_err-early_refusal c =
     let a = c.args in
-    let w = early_refused a.state a.tag a.value.now a.places.now c.early_refusal-early.ensures c.if-refusal-ne-ACCEPTED.true in
-    record { answer = w.0; lent = w.1 }
+    let e = c.in_err-early_refusal in
+    let w = early_refused a.state a.tag a.value.now a.places.now e.field-0.0 e.ensures in
+    record { answer = rw (handed_on c.from_residual.result e.field-0.0 c.from_residual.ensures.1) w.0; lent = w.1 }
 
 pub results_of-answer-requires : goal.results_of-answer-requires
 results_of-answer-requires c =
     let a = c.args in
-    let f = facts a.state a.tag a.value.now (length a.places.now) c.early_refusal-early.ensures c.if-refusal-ne-ACCEPTED.false in
+    let f = facts a.state a.tag a.value.now (length a.places.now) c.in_ok-early_refusal.ensures in
     let g = f.given in
     record { content = f.sound.content; known = g.known; size = g.size; fit = g.fit; small = g.small }
 
-pub returns-then-not-enough : goal.returns-then-not-enough
-returns-then-not-enough c =
+pub returns-in_default : goal.returns-in_default
+returns-in_default c =
     let a = c.args in
-    let f = facts a.state a.tag a.value.now (length a.places.now) c.early_refusal-early.ensures c.if-refusal-ne-ACCEPTED.false in
-    let few = days_lack a.state.head a.state.marks (kind_of a.tag) a.value.now c.results_of-answer.ensures (ap not c.if-not-enough.true) in
+    let f = facts a.state a.tag a.value.now (length a.places.now) c.in_ok-early_refusal.ensures in
+    let few = days_lack a.state.head a.state.marks (kind_of a.tag) a.value.now c.in_default.ensures in
     let told : adding_refusal a.state a.tag a.value.now (length a.places.now) ≡ 18 = f.days ∙ simp few in
     let w = refused a.state a.tag a.value.now a.places.now told (λ z. absurd (omega arith)) refl in
     record { answer = w.0; lent = w.1 }
@@ -58,40 +57,34 @@ returns-then-not-enough c =
 pub put-requires : goal.put-requires
 put-requires c =
     let a = c.args in
-    (facts a.state a.tag a.value.now (length a.places.now) c.early_refusal-early.ensures c.if-refusal-ne-ACCEPTED.false).given.six
+    (facts a.state a.tag a.value.now (length a.places.now) c.in_ok-early_refusal.ensures).given.six
 
-pub add_totals-sums-requires : goal.add_totals-sums-requires
-add_totals-sums-requires c =
+pub add_totals-totals-requires : goal.add_totals-totals-requires
+add_totals-totals-requires c =
     let a = c.args in
     let n = length a.places.now in
-    let f = facts a.state a.tag a.value.now n c.early_refusal-early.ensures c.if-refusal-ne-ACCEPTED.false in
-    let found = found a.state a.tag a.value.now n c.early_refusal-early.ensures c.if-refusal-ne-ACCEPTED.false
-    c.results_of-answer.ensures (ap not c.if-not-enough.false)
-    in
-    λ i. rw (c.slot_totals-before.ensures, found.0) (f.sums i)
+    let f = facts a.state a.tag a.value.now n c.in_ok-early_refusal.ensures in
+    let found = found a.state a.tag a.value.now n c.in_ok-early_refusal.ensures c.in-Some.ensures in
+    λ i. rw (c.slot_totals-before.ensures, found.1) (f.sums i)
 
-pub number_of-number-requires : goal.number_of-number-requires
-number_of-number-requires c =
+pub number_of-last-requires : goal.number_of-last-requires
+number_of-last-requires c =
     let a = c.args in
-    (facts a.state a.tag a.value.now (length a.places.now) c.early_refusal-early.ensures c.if-refusal-ne-ACCEPTED.false).numbered
+    (facts a.state a.tag a.value.now (length a.places.now) c.in_ok-early_refusal.ensures).numbered
 
-pub overflow_add-next : goal.overflow_add-next
-overflow_add-next c =
+pub overflow_add-result : goal.overflow_add-result
+overflow_add-result c =
     let a = c.args in
-    record { fits = (facts a.state a.tag a.value.now (length a.places.now) c.early_refusal-early.ensures c.if-refusal-ne-ACCEPTED.false).next }
+    record { fits = (facts a.state a.tag a.value.now (length a.places.now) c.in_ok-early_refusal.ensures).next }
 
 pub returns : goal.returns
 unfolding taken
 returns c =
     let a = c.args in
     let n = length a.places.now in
-    let found = found a.state a.tag a.value.now n c.early_refusal-early.ensures c.if-refusal-ne-ACCEPTED.false
-    c.results_of-answer.ensures (ap not c.if-not-enough.false)
-    in
-    let accepted = accepted a.state a.tag a.value.now n c.early_refusal-early.ensures c.if-refusal-ne-ACCEPTED.false
-    c.results_of-answer.ensures (ap not c.if-not-enough.false)
-    in
+    let found = found a.state a.tag a.value.now n c.in_ok-early_refusal.ensures c.in-Some.ensures in
+    let accepted = accepted a.state a.tag a.value.now n c.in_ok-early_refusal.ensures c.in-Some.ensures in
     record {
-      answer = rw (c.add_totals-sums.ensures, c.slot_totals-before.ensures, c.number_of-number.ensures, found.0) (took a.state a.tag a.value.now n accepted found.1);
-      lent = c.put.ensures ∙ found.0 ∙ sym (places_good a.state a.tag a.value.now a.places.now accepted);
+      answer = rw (c.add_totals-totals.ensures, c.slot_totals-before.ensures, c.number_of-last.ensures, found.1) (took a.state a.tag a.value.now n accepted found.2);
+      lent = c.put.ensures ∙ found.1 ∙ sym (places_good a.state a.tag a.value.now a.places.now accepted);
     }

@@ -1,6 +1,6 @@
-use Rattle.numbers.specs.Words.{bytes_of}
+use mathlib.Core.Path.{◌∙◌}
+use Rattle.numbers.proofs.Words.{high_first}
 use Rattle.numbers.proofs.eight_bytes.Goals as goal
 
 pub returns : goal.returns
-unfolding bytes_of
-returns c = cc
+returns c = c.to_be_bytes.ensures ∙ high_first 8 c.args.number

@@ -1,18 +1,21 @@
-use mathlib.Core.Path.{sym, ◌∙◌}
-use native.Mathlib.Omega.{arith}
-use Rattle.numbers.proofs.PointNumbers.{below_next, below_stop, below_end, below_past}
+use mathlib.Core.Path.{◌≡◌, ap, ◌∙◌}
+use mathlib.Core.Bool.{Bool, false}
+use Prim.Native.Nat.{ℕ}
+use lib.Dec.{ltb}
+use Rattle.std.proofs.Common.{rules, tests, Option, None, Some}
+use Rattle.std.proofs.lemmas.Iterator.{YieldsList-from_slice, YieldsList-from_zip}
+use Rattle.std.proofs.lemmas.Iterator.Search.{find_from_yields_List}
+use Rattle.std.specs.Option.{MatchOption, option_map}
+use Rattle.numbers.proofs.PointNumbers.{differ, is_first_below, below_found}
 use Rattle.numbers.proofs.is_below.Goals as goal
 
-pub returns-then-b-i : goal.returns-then-b-i
-returns-then-b-i c = let l = c.loop-i in sym (l.invariant.1 ∙ below_past _ _ l.i (omega arith) (omega arith))
-
-pub returns-then-x-y : goal.returns-then-x-y
-returns-then-x-y c = let l = c.loop-i in sym (l.invariant.1 ∙ below_stop _ _ l.i (omega arith) (omega arith) c.if-x-y.true)
-
-pub loop-i-preserved : goal.loop-i-preserved
-loop-i-preserved c =
-    let l = c.loop-i in
-    (omega arith, l.invariant.1 ∙ below_next _ _ l.i (omega arith) (omega arith) c.if-x-y.false)
+decided : {A : Type 0} (v : A → ℕ × ℕ) (o : Option A) (r : Bool) → MatchOption o (r ≡ false) (λ x. r ≡ ltb (v x).0 (v x).1)
+    → r ≡ is_first_below (option_map v o)
+decided v None r h = h
+decided v (Some x) r h = h
 
 pub returns : goal.returns
-returns c = let l = c.loop-i in sym (l.invariant.1 ∙ below_end _ _ l.i (omega arith))
+returns c =
+    let e = find_from_yields_List differ c.find.new.self _ c.find.result c.find.ensures.ran
+    (YieldsList-from_zip {s = c.zip.result} (YieldsList-from_slice c.args.a.now cc) (YieldsList-from_slice c.args.b.now cc)) (λ x b q k. search (rules, tests)) in
+    decided _ c.find.result _ (search rules) ∙ ap is_first_below e ∙ below_found c.args.a.now c.args.b.now

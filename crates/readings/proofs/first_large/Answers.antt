@@ -1,49 +1,35 @@
-use mathlib.Core.Path.{◌≡◌, sym, ◌∙◌}
-use native.Mathlib.Nat.{zero-add, sub-zero}
+-- `first_large` meets its contract. Assumes nothing.
+use mathlib.Core.Bool.{Bool, true, false, cond}
+use mathlib.Core.Path.{◌≡◌, refl, sym, ap, ◌∙◌}
+use Prim.Native.Nat.{ℕ, ◌≤◌}
 use native.Mathlib.Omega.{arith}
 use borrow.Author.Rules.{rules}
-use Rattle.readings.proofs.Large.{from, left_pass, left_none_in, left_found_in}
-use Rattle.readings.proofs.Packing.{small_of}
+use borrow.Author.Tests.{tests, ltb-false}
+use lib.Dec.{ltb}
+use Rattle.std.specs.Prelude.{Option, Some, None}
+use Rattle.std.specs.Option.{unwrap_or}
+use Rattle.std.proofs.lemmas.Iterator.{YieldsList-from_slice}
+use Rattle.std.proofs.lemmas.Iterator.Search.{position_from_yields_List}
+use Rattle.readings.proofs.Large.{first_bound}
+use Rattle.readings.proofs.FourBytes.{is_large, chunks_are, chunks_length, counted, none_of_small}
 use Rattle.readings.proofs.first_large.Goals as goal
-use Rattle.readings.proofs.first_large.Goals.{then-not-is_small+else-found-i, else-not-is_small}
 
-pub loop-i-init : goal.loop-i-init
-loop-i-init c = (search rules, search rules, simp (zero-add, sub-zero))
+found_or : (found n : ℕ) → found ≤ n → unwrap_or (cond (ltb found n) (Some found) None) n ≡ found
+found_or found n within = go (ltb found n) refl
+  where
+    go : (test : Bool) → ltb found n ≡ test → unwrap_or (cond test (Some found) None) n ≡ found
+    go true e = refl
+    go false e = omega (arith, ltb-false _ _ e)
 
-pub returns-then-found-i : goal.returns-then-found-i
-returns-then-found-i c =
-    let l = c.loop-i in
-    sym (l.invariant.2 ∙ left_found_in _ l.i _ 16 _ c.first_large_from-found.ensures (omega (arith, c.if-found-i.true)) (omega arith))
+pub returns-then-are_small : goal.returns-then-are_small
+returns-then-are_small c =
+    let a = c.args in
+    let chunks = c.as_chunks.ensures.front ∙ chunks_are a.n a.readings.now c.requires in
+    sym (none_of_small a.n a.readings.now (λ i. omega (arith, c.type_inv.readings i)) (rw chunks at (c.if-are_small.ensures refl)))
 
-pub loop-i-preserved : goal.loop-i-preserved
-loop-i-preserved c =
-    let l = c.loop-i in
-    let s = c.args.readings.now in
-    let none : from s l.i 16 ≡ 16
-    = elim c.if-not-is_small.branch [
-      | then-not-is_small+else-found-i w ↦ left_none_in s l.i 0 16 _ w.first_large_from-found.ensures (omega (arith, w.if-found-i.false))
-      | else-not-is_small w ↦ c.sixteen_packed.ensures (small_of _ _ c.is_small.ensures w.if-not-is_small.false-raw)
-    ]
-    in
-    (omega arith, l.invariant.1, l.invariant.2 ∙ left_pass s l.i _ 16 (omega arith) none)
-
-pub overflow_sub-n : goal.overflow_sub-n
-overflow_sub-n c = omega arith
-
-pub sixteen_packed-requires : goal.sixteen_packed-requires
-sixteen_packed-requires c = omega arith
-
-pub overflow_add-i : goal.overflow_add-i
-overflow_add-i c = omega arith
-
-pub overflow_add-i-then-not-is_small : goal.overflow_add-i-then-not-is_small
-overflow_add-i-then-not-is_small c = omega arith
-
-pub overflow_add-i-in-loop-i : goal.overflow_add-i-in-loop-i
-overflow_add-i-in-loop-i c = omega arith
-
-pub loop-i-smaller : goal.loop-i-smaller
-loop-i-smaller c = omega arith
-
-pub first_large_from-requires : goal.first_large_from-requires
-first_large_from-requires c = omega arith
+pub returns : goal.returns
+returns c =
+    let a = c.args in
+    let chunks = c.as_chunks.ensures.front ∙ chunks_are a.n a.readings.now c.requires in
+    let at = position_from_yields_List is_large _ _ c.position.result c.position.ensures.ran (YieldsList-from_slice c.as_chunks.result.0.now (cc)) (λ x b q k. search (rules, tests)) in
+    c.unwrap_or.ensures ∙ ap (λ (o : Option ℕ). unwrap_or o a.n) (rw (chunks, chunks_length, counted) at at) ∙ found_or _ a.n (first_bound a.readings.now a.n)

@@ -1,42 +1,44 @@
--- Too few days, or the results on the chosen ones: by what the day choice and the baseline promise.
-use mathlib.Core.Path.{sym}
-use native.Mathlib.Omega.{arith}
+-- No four days, or the results on the chosen ones: by what the day choice and the baseline promise. Assumes nothing.
+use mathlib.Core.Path.{◌≡◌, sym, ◌∙◌}
+use borrow.Author.Rules.{rules}
+use borrow.Author.Tests.{not-false}
+use lib.ListN.{length}
+use Rattle.numbers.specs.Slots.{days_used}
 use Rattle.numbers.proofs.Parts.{rest_of}
-use Rattle.points.specs.Points.{consumer_readings_at}
-use Rattle.results.proofs.Consumers.{dated, classed, lossy, tested, too_few, baselines_small, consumer_results}
+use Rattle.points.specs.Points.{consumer_readings_at, class_of}
+use Rattle.points.proofs.Classes.{is_one, numbered}
+use Rattle.results.proofs.Consumers.{dated, lossy, tested, too_few, baselines_small, consumer_results}
 use Rattle.results.proofs.consumer_found.Goals as goal
 
 pub day_count-test-requires : goal.day_count-test-requires
 day_count-test-requires c = dated c.requires
 
-pub chosen_days-chosen-requires : goal.chosen_days-chosen-requires
-chosen_days-chosen-requires c =
-    record { back = omega (arith, c.day_count-test.ensures.within); tested = rw (rest_of c.args.value.now consumer_readings_at) (tested c.requires) }
+pub invariant_of-consumer : goal.invariant_of-consumer
+invariant_of-consumer c = record { within = rw (c.from.ensures, rest_of c.args.value.now consumer_readings_at) (tested c.requires).window }
 
-pub returns-then-not-enough : goal.returns-then-not-enough
-returns-then-not-enough c =
-    sym (too_few c.requires c.day_count-test.ensures.counted c.chosen_days-chosen.ensures.chosen c.if-not-enough.true)
+pub invariant_of-consumer-2 : goal.invariant_of-consumer-2
+invariant_of-consumer-2 c = record { tested = rw (c.from.ensures, rest_of c.args.value.now consumer_readings_at) (tested c.requires) }
+
+pub returns-in_err-days : goal.returns-in_err-days
+returns-in_err-days c =
+    c.from_residual.ensures ∙ sym (too_few c.requires c.day_count-test.ensures.counted (rw c.from.ensures at c.in_err-days.ensures))
 
 -- behind the choice of days, there are four
 
-pub baselines_on-slots-requires : goal.baselines_on-slots-requires
-baselines_on-slots-requires c = (rw (rest_of c.args.value.now consumer_readings_at) (tested c.requires), c.chosen_days-chosen.ensures.back)
-
-pub loss_of-loss-requires : goal.loss_of-loss-requires
-loss_of-loss-requires c = classed c.requires
+pub unwrap-class-requires : goal.unwrap-class-requires
+unwrap-class-requires c = is_one (class_of c.args.value.now) c.try_from.result c.try_from.ensures (not-false _ c.requires.fit)
 
 pub consumer_results-found-requires : goal.consumer_results-found-requires
 consumer_results-found-requires c =
-    let chosen = c.chosen_days-chosen.ensures in (
-      rw c.loss_of-loss.ensures (lossy c.requires),
-      baselines_small c.requires c.day_count-test.ensures.counted chosen.chosen c.if-not-enough.false c.baselines_on-slots.ensures,
-      rw (rest_of c.args.value.now consumer_readings_at) (tested c.requires),
+    let class = numbered (class_of c.args.value.now) c.try_from.result c.try_from.ensures c.unwrap-class.ensures in
+    let four : length c.in_ok-days.days.back ≡ days_used = search rules in (
+      rw (c.loss-loss.ensures, class) (lossy c.requires),
+      baselines_small c.requires c.day_count-test.ensures.counted four (rw c.from.ensures at c.in_ok-days.ensures) (rw c.from.ensures at c.baselines_on-slots.ensures),
     )
-
-pub day_bytes-told-requires : goal.day_bytes-told-requires
-day_bytes-told-requires c = c.chosen_days-chosen.ensures.back
 
 pub returns : goal.returns
 returns c =
-    let found = consumer_results c.requires c.day_count-test.ensures.counted c.chosen_days-chosen.ensures.chosen c.if-not-enough.false c.baselines_on-slots.ensures in
-    rw (c.consumer_results-found.ensures, c.loss_of-loss.ensures, rest_of c.args.value.now consumer_readings_at, c.day_bytes-told.ensures) (sym found)
+    let class = numbered (class_of c.args.value.now) c.try_from.result c.try_from.ensures c.unwrap-class.ensures in
+    let four : length c.in_ok-days.days.back ≡ days_used = search rules in
+    let found = consumer_results c.requires c.day_count-test.ensures.counted four (rw c.from.ensures at c.in_ok-days.ensures) (rw c.from.ensures at c.baselines_on-slots.ensures) in
+    rw (c.consumer_results-found.ensures, c.loss-loss.ensures, class, c.from.ensures, rest_of c.args.value.now consumer_readings_at) (sym found)

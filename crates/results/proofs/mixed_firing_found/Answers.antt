@@ -1,26 +1,15 @@
-use mathlib.Core.Path.{refl, sym, ap, ◌∙◌}
-use mathlib.Core.Bool.{true}
-use native.Mathlib.Nat.{zero-add}
-use native.Mathlib.Omega.{arith}
+-- `mixed_firing_found` meets its contract. Assumes nothing.
+use mathlib.Core.Path.{sym, ap, ◌∙◌}
 use lib.IntN.{pos}
-use mir.Syntax.{w64}
-use Rattle.numbers.specs.Slots.{no_days}
-use Rattle.numbers.proofs.Filling.{filled_none, filled_more, filled_all}
-use Rattle.integers.proofs.Machine.{told}
-use Rattle.results.proofs.SlotResults.{mixed_firing_results}
+use native.Mathlib.Nat.{zero-add}
+use borrow.Author.Rules.{rules}
+use Rattle.numbers.specs.Slots.{no_days, window_slots}
+use Rattle.numbers.proofs.Made.{made_same}
+use Rattle.results.proofs.SlotResults.{mixed_firing_at, mixed_firing_results}
 use Rattle.results.proofs.mixed_firing_found.Goals as goal
-
-pub loop-j-preserved : goal.loop-j-preserved
-loop-j-preserved c =
-    let l = c.loop-j in
-    let result = told w64 c.mixed_firing_result.type_inv c.mixed_firing_result.ensures in
-    (l.invariant.0, filled_more l.invariant.1 (pos 0) _ (omega arith) (result ∙ rw (c.word32_at-outside.ensures, c.word32_at-inside.ensures, l.invariant.0, zero-add)))
 
 pub returns : goal.returns
 returns c =
     let v = c.args.value.now in
-    let found = filled_all c.loop-j.invariant.1 (omega arith) ∙ sym (mixed_firing_results v) in
-    ap (λ six. record { enough = true; found = six; days = no_days }) found
-
-pub loop-j-init : goal.loop-j-init
-loop-j-init c = (c.word16_at-share.ensures, filled_none refl)
+    let found = made_same _ (mixed_firing_at v) 0 window_slots (pos 0) (λ i y q below k. rw zero-add (search rules)) c.from_fn-found.ensures.items in
+    ap (λ six. record { found = six; days = no_days }) (found ∙ sym (mixed_firing_results v))

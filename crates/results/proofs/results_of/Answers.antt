@@ -1,33 +1,27 @@
--- An arm for each kind of point: what its function requires, and what it gives. No kind of point has another tag.
-use mathlib.Core.Bool.{true≢false}
-use native.Mathlib.Omega.{arith}
-use borrow.Author.Rules.{rules}
-use borrow.Author.Tests.{ltb-false}
-use Rattle.points.specs.Points.{consumer_tag, generator_tag, mixed_firing_tag}
-use Rattle.points.proofs.PointKinds.{of_tag, is_unknown_lem}
+-- What a point of each kind gives: generators and mixed-firing plants need no days. Assumes nothing.
+use mathlib.Core.Path.{◌≡◌, sym, ap, ◌∙◌}
+use Prim.Native.Nat.{ℕ}
+use Rattle.std.specs.Prelude.{Result, Ok, Err, Some, IfOk}
+use Rattle.std.specs.Result.{result_ok}
+use Rattle.points.specs.Told.{tag_of}
+use Rattle.points.specs.declared.Kind.{Kind}
 use Rattle.results.specs.SlotResults.{quotients}
 use Rattle.results.specs.Steps.{found_of}
 use Rattle.results.proofs.results_of.Goals as goal
 
-pub consumer_found-requires : goal.consumer_found-requires
-consumer_found-requires c = rw (of_tag c.args.tag consumer_tag (omega arith)) at c.requires
+-- the kind that a tag gave
+of_tag : {E : Type 0} {tag : ℕ} (given : Result Kind E) (kind : Kind) → IfOk given (λ kind. tag_of kind ≡ tag) → result_ok given ≡ Some kind → tag_of kind ≡ tag
+of_tag (Ok given) kind tagged e = let same : given ≡ kind = cc in rw (← same) tagged
+of_tag (Err refusal) kind tagged e = cc
 
-pub generator_found-requires : goal.generator_found-requires
-generator_found-requires c = let p = rw (of_tag c.args.tag generator_tag (omega arith)) at c.requires in (p.size, ltb-false _ _ p.fit)
-
-pub mixed_firing_found-requires : goal.mixed_firing_found-requires
-mixed_firing_found-requires c = let p = rw (of_tag c.args.tag mixed_firing_tag (omega arith)) at c.requires in (p.size, ltb-false _ _ p.fit)
-
-pub returns-in-3 : goal.returns-in-3
-returns-in-3 c = rw (of_tag c.args.tag consumer_tag (omega arith)) c.consumer_found.ensures
-
-pub returns-in-4 : goal.returns-in-4
+pub returns-in-Generator : goal.returns-in-Generator
 unfolding found_of quotients
-returns-in-4 c = rw (of_tag c.args.tag generator_tag (omega arith)) c.generator_found.ensures
+returns-in-Generator c =
+    let tag = of_tag _ _ c.try_from.ensures.0 (sym c.ok.ensures.value ∙ c.in_ok-ok.was) in
+    rw (← tag, c.in-Generator.is) (ap Some c.generator_found.ensures)
 
-pub returns-in-5 : goal.returns-in-5
+pub returns-in-MixedFiring : goal.returns-in-MixedFiring
 unfolding found_of quotients
-returns-in-5 c = rw (of_tag c.args.tag mixed_firing_tag (omega arith)) c.mixed_firing_found.ensures
-
-pub returns-in_default : goal.returns-in_default
-returns-in_default c = absurd (true≢false (rw (is_unknown_lem c.args.tag (search rules)) at c.requires.known))
+returns-in-MixedFiring c =
+    let tag = of_tag _ _ c.try_from.ensures.0 (sym c.ok.ensures.value ∙ c.in_ok-ok.was) in
+    rw (← tag, c.in-MixedFiring.is) (ap Some c.mixed_firing_found.ensures)

@@ -1,14 +1,9 @@
 -- Point by point: what is left to read ends as the whole does.
-use mathlib.Core.Path.{◌≡◌}
-use Prim.Native.Nat.{◌≤◌}
-use lib.ListN.{length, drop}
+use Rattle.std.proofs.Common.{◌≡◌, ◌-◌}
 use Rattle.book.specs.Reading.{read_points}
 use Rattle.book.specs.Endings.{points_ending}
 use Rattle.book.proofs.settling.read_points.Given as goal
 
-abbrev pub invariant-loop-due : goal.invariant-loop-due
-invariant-loop-due l =
-    (l.at ≤ length l.book) × (points_ending (read_points l.initial.due l.initial.state (drop l.start l.book)) ≡ points_ending (read_points l.due l.state (drop l.at l.book)))
-
-abbrev pub decreases-loop-due : goal.decreases-loop-due
-decreases-loop-due l = l.due
+abbrev pub invariant-loop : goal.invariant-loop
+invariant-loop l =
+    points_ending (read_points l.end l.initial.state l.initial.left) ≡ points_ending (read_points (l.end - l.counter) l.state l.left)

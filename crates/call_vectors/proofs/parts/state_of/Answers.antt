@@ -1,4 +1,4 @@
-use Rattle.std.proofs.Common.{◌≡◌, refl, ◌∙◌, ℕ, List, length-take, arith, take, drop}
+use Rattle.std.proofs.Common.{◌≡◌, refl, ◌∙◌, ℕ, List, length-take, arith, take, drop, length-drop}
 use Rattle.std.specs.Prelude.{ℤ}
 use Rattle.std.proofs.Math.Seq.{take_all}
 use Rattle.numbers.specs.Lists.{run}
@@ -23,5 +23,5 @@ made bytes e₁ e₂ e₃ e₄ e₅ = rw (e₁, e₂, e₃, e₄, e₅) refl
 pub returns : goal.returns
 returns c =
     let bytes = c.args.bytes.now in
-    made bytes c.head_of-head.ensures c.marks_of-marks.ensures c.word32_at-points.ensures c.signed_list.ensures
+    made bytes c.head_of-head.ensures (c.array_of-marks.ensures.whole (simp (length-take, length-drop) (omega arith))) c.word32_at-points.ensures c.signed_list-totals.ensures
     (c.number_of-last.ensures ∙ take_all number_length (take number_length (drop last_at bytes)) (simp length-take (omega arith)))

@@ -1,28 +1,16 @@
-use Rattle.std.proofs.Common.{◌≡◌, sym, ◌∙◌, length, get_or, pos, arith, rules}
-use Rattle.numbers.proofs.Filling.{front_more, front_all}
-use Rattle.integers.proofs.Machine.{word_back}
-use Rattle.figures.specs.SlotTotals.{plus}
-use Rattle.figures.proofs.SlotTotals.{plus_at, plus_length}
+use Rattle.std.proofs.Common.{◌≡◌, ◌∙◌, refl, get_or, pos, ◌+ℤ◌, rules, w64}
+use native.Mathlib.Nat.{zero-add}
+use Rattle.numbers.proofs.Made.{made}
+use Rattle.integers.proofs.Machine.{back}
+use Rattle.figures.proofs.SlotTotals.{as_read, plus_run}
 use Rattle.figures.proofs.totals.add_totals.Goals as goal
-
-pub loop-slot-preserved : goal.loop-slot-preserved
-loop-slot-preserved c =
-    let xs = c.args.totals in
-    let ys = c.args.found in
-    let i = c.loop-slot.slot in
-    let a : length xs ≡ 6 = search rules in
-    let b : length ys ≡ 6 = search rules in
-    let e : c.add_bounded.result ≡ get_or (plus xs ys) i (pos 0) =
-    c.add_bounded.ensures
-    ∙ rw (word_back (get_or xs i (pos 0)) (omega arith), word_back (get_or ys i (pos 0)) (omega arith)) (sym (plus_at xs ys i (omega arith) (omega arith))) in
-    record {
-      to = omega arith;
-      filled = rw (word_back c.add_bounded.result c.add_bounded.type_inv, c.loop-slot.invariant.filled, e)
-          (front_more _ _ i (pos 0) (omega arith) (omega (arith, plus_length xs ys)));
-    }
 
 pub returns : goal.returns
 returns c =
-    let a : length c.args.totals ≡ 6 = search rules in
-    let b : length c.args.found ≡ 6 = search rules in
-    c.loop-slot.invariant.filled ∙ front_all _ _ c.loop-slot.slot (omega arith) (omega (arith, plus_length c.args.totals c.args.found))
+    let a = c.args in
+    made _ (λ p. (p.0.now ≡ a.totals) × (p.1.now ≡ a.found)) (λ slot. get_or a.totals slot (pos 0) +ℤ get_or a.found slot (pos 0)) 0 6 (pos 0) (refl, refl)
+    (λ p slot y q fixed below called.
+    let told : y ≡ back w64 (get_or p.0.now slot (pos 0)) +ℤ back w64 (get_or p.1.now slot (pos 0)) = search rules in
+    let kept : (q.0.now ≡ a.totals) × (q.1.now ≡ a.found) = search rules in
+    (told ∙ rw (fixed.0, fixed.1, zero-add) (as_read (get_or a.totals slot (pos 0)) (get_or a.found slot (pos 0)) (c.requires slot)), kept))
+    c.from_fn.ensures.items ∙ plus_run a.totals a.found 6 (search rules) (search rules)

@@ -1,5 +1,0 @@
-use Rattle.numbers.proofs.Places.{then}
-use Rattle.lines.proofs.put_line.Goals as goal
-
-pub returns-clause-placed : goal.returns-clause-placed
-returns-clause-placed c = then c.put-named.ensures (then c.put_number-told.ensures.placed c.put.ensures)

@@ -1,7 +1,0 @@
--- `earlier_use` meets its contract. Assumes nothing.
-use Rattle.readings.specs.Readings.{earlier_use}
-use Rattle.readings.proofs.earlier_use.Goals as goal
-
-pub returns : goal.returns
-unfolding earlier_use
-returns c = c.window_sum.ensures
