@@ -85,7 +85,8 @@ def edited(edit, name):
 def function_at(edit, name, line, column):
     """The function at a place of the edited crate: the one that begins there, or the one around a place within a line."""
     lines = edited(edit, name)
-    for candidate in lines[line - 1:] if column == 1 else reversed(lines[:line]):
+    begins = column == 1 or lines[line - 1][column - 1:].startswith("#[")  # a method begins with its attribute
+    for candidate in lines[line - 1:] if begins else reversed(lines[:line]):
         found = re.search(r"\bfn (\w+)", candidate)
         if found:
             return found.group(1)

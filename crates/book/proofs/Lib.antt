@@ -1,4 +1,3 @@
 pub mod Readings
 pub mod Closings
 pub mod Endings
-pub mod Results

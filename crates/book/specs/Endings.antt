@@ -1,12 +1,16 @@
--- How a reading ends, as the code gives it: the refusal, or 0 and the state after the last point; and the closing after it. A refused
--- reading gives the state of zeros.
+-- How a reading ends: the refusal, or 0 and the state after the last point; and the closing after it. A refused reading gives the state of
+-- zeros.
 use Rattle.std.specs.Prelude.{cond, ℕ, eqb}
 use Rattle.figures.specs.Figures.{no_figures}
 use Rattle.ledger.specs.States.{no_state}
 use Rattle.ledger.specs.Operations.{close_of}
-use Rattle.ledger.specs.declared.Closed.{Closed}
+use Rattle.ledger.specs.Operations.{Closed}
 use Rattle.book.specs.Reading.{Reading, refused, good, Points, Book}
-use Rattle.book.specs.declared.Ending.{Ending}
+use Rattle.ledger.specs.declared.State.{State}
+
+pub record Ending : Type 0 where
+  pub refusal : ℕ
+  pub state : State
 
 abbrev pub refused_with : ℕ → Ending
 refused_with refusal = record { refusal = refusal; state = no_state }

@@ -1,4 +1,4 @@
 pub mod Reading
 pub mod Endings
 pub mod Settling
-pub mod Results
+pub mod Told

@@ -4,7 +4,7 @@ use Rattle.numbers.specs.Lists.{gather}
 use Rattle.numbers.specs.Words.{bytes_of}
 use Rattle.integers.specs.Integers.{twos_complement}
 use Rattle.figures.specs.declared.Figures.{Figures}
-use Rattle.ledger.specs.declared.Closed.{Closed}
+use Rattle.ledger.specs.Operations.{Closed}
 use Rattle.book.specs.Reading.{read_book}
 use Rattle.book.specs.Endings.{book_ending, closed_after}
 

@@ -1,172 +1,94 @@
-// The whole book: reading it field by field, and the 64 result bytes.
-ghost use Rattle.std.specs.Prelude.{◌≡◌, cond, ◌^◌, ◌<◌, pos, length, get_or};
+// The whole book: reading it field by field, and the 64 result bytes. Document 01 names let .. else for the field answer,
+// where `?` would do.
+ghost use Rattle.std.specs.Prelude.{◌≡◌, length, flat_map};
+ghost use Rattle.refusals.specs.Told.{number_told};
+ghost use Rattle.ledger.specs.Told.{closed_told};
 ghost use Rattle.book.specs.Reading.{read_points, read_book};
-ghost use Rattle.book.specs.Endings.{refused_with, points_ending, book_ending, closed_after};
-ghost use Rattle.book.specs.Settling.{result_length, words_of, settling_refusal, settling_result};
-ghost use Rattle.book.specs.Results.{SmallWords, word_bytes};
+ghost use Rattle.book.specs.Endings.{points_ending, book_ending, closed_after};
+ghost use Rattle.book.specs.Settling.{result_bytes, settling_refusal, settling_result};
+ghost use Rattle.book.specs.Told.{ending_told};
 
-use crate::Ending;
 use fields::{Due, cutting};
 use figures::Figures;
-use ledger::{Closed, State};
-use numbers::WINDOW_SLOTS;
+use integers::word_bytes;
+use ledger::State;
+use numbers::{WINDOW_SLOTS, eight_bytes};
+use refusals::Refusal;
 
 // The length of a result: eight words of eight bytes.
 const RESULT_LENGTH: usize = 64;
 
-// A refused reading.
-fn refused(refusal: u32) -> Ending
-    ensures { result ≡ refused_with refusal }
-{
-    let state = ledger::states::no_state();
-    Ending { refusal, state }
-}
-
-// As many points as the head says, and nothing behind them. Document 01 names let .. else for the field answer.
+// As many points as the head says, and nothing behind them: the state after the last one.
 #[tactic(auto, using(crate::proofs::Endings::point_steps))]
-fn read_points(opened: State, book: &[u8]) -> Ending
-    ensures { result ≡ points_ending (read_points opened.head.count opened book.now) }
+fn read_points(opened: State, book: &[u8]) -> Result<State, Refusal>
+    ensures { ending_told result ≡ points_ending (read_points opened.head.count opened book.now) }
 {
     let mut state = opened;
     let mut left = book;
     for _ in 0..opened.head.count {
-        let point = cutting::cut(Due::Point, left);
-        let Ok(point) = point else {
-            return refused(refusals::number_told(point));
+        let field = cutting::cut(Due::Point, left);
+        let Ok(point) = field else {
+            return Err(field.unwrap_err());
         };
         let mut places = [0i64; WINDOW_SLOTS];
-        match ledger::add(state, point.tag, point.value, &mut places) {
-            Ok(added) => state = added.state,
-            Err(refusal) => return refused(refusal.number()),
-        }
+        state = ledger::add(state, point.tag, point.value, &mut places)?.state;
         left = point.behind;
     }
     if !left.is_empty() {
-        return refused(refusals::BYTES_AFTER);
+        return Err(Refusal::BytesAfter);
     }
-    Ending {
-        refusal: refusals::ACCEPTED,
-        state,
-    }
+    Ok(state)
 }
 
-// A whole book.
+// A whole book: the state after the last point.
 #[tactic(auto, using(crate::proofs::Endings::book_steps))]
-fn read(book: &[u8]) -> Ending
-    ensures { result ≡ book_ending (read_book book.now) }
+fn read(book: &[u8]) -> Result<State, Refusal>
+    ensures { ending_told result ≡ book_ending (read_book book.now) }
 {
-    let head = cutting::cut(Due::Head, book);
-    let Ok(head) = head else {
-        return refused(refusals::number_told(head));
+    let field = cutting::cut(Due::Head, book);
+    let Ok(head) = field else {
+        return Err(field.unwrap_err());
     };
-    let calendar = cutting::cut(Due::Calendar, head.behind);
-    let Ok(calendar) = calendar else {
-        return refused(refusals::number_told(calendar));
+    let field = cutting::cut(Due::Calendar, head.behind);
+    let Ok(calendar) = field else {
+        return Err(field.unwrap_err());
     };
-    match ledger::open(head.value, calendar.value) {
-        Ok(state) => read_points(state, calendar.behind),
-        Err(refusal) => refused(refusal.number()),
-    }
+    let state = ledger::open(head.value, calendar.value)?;
+    read_points(state, calendar.behind)
 }
 
 // The closing after a reading: the reading's refusal, or what closing answers.
-pub fn close(ending: Ending) -> Closed
-    ensures { result ≡ closed_after ending }
+pub fn close(ending: Result<State, Refusal>) -> Result<Figures, Refusal>
+    ensures { closed_told result ≡ closed_after (ending_told ending) }
 {
-    let told = ending.refusal;
-    if told != refusals::ACCEPTED {
-        let figures = figures::closing::no_figures();
-        return Closed {
-            refusal: told,
-            figures,
-        };
-    }
-    match ledger::close(ending.state) {
-        Ok(figures) => Closed {
-            refusal: refusals::ACCEPTED,
-            figures,
-        },
-        Err(refusal) => Closed {
-            refusal: refusal.number(),
-            figures: figures::closing::no_figures(),
-        },
-    }
+    ledger::close(ending?)
 }
 
-// A number without a sign as a signed word.
-fn signed(number: u64) -> i64
-    requires { number < 2 ^ 63 }
-    ensures { result ≡ pos number }
+// The eight words of a result, high byte first.
+fn words_of(figures: Figures) -> [[u8; 8]; 8]
+    ensures { flat_map (λ word. word) result ≡ result_bytes figures }
 {
-    number as i64
-}
-
-fn one_or_zero(bid: bool) -> i64
-    ensures { result ≡ pos (cond bid 1 0) }
-{
-    if bid { 1 } else { 0 }
-}
-
-// The eight words of a result.
-fn words_of(figures: Figures) -> [i64; 8]
-    requires { SmallWords figures }
-    ensures { result ≡ words_of figures }
-{
-    let shortfall = signed(figures.shortfall);
-    let expected = signed(figures.expected);
-    let kept = signed(figures.kept);
-    let surplus = signed(figures.surplus);
-    let points = signed(figures.points as u64);
-    let bid = one_or_zero(figures.bid);
     [
-        figures.total,
-        figures.settled,
-        shortfall,
-        expected,
-        kept,
-        surplus,
-        points,
-        bid,
+        word_bytes(figures.total),
+        word_bytes(figures.settled),
+        eight_bytes(figures.shortfall),
+        eight_bytes(figures.expected),
+        eight_bytes(figures.kept),
+        eight_bytes(figures.surplus),
+        eight_bytes(u64::from(figures.points)),
+        eight_bytes(u64::from(figures.bid)),
     ]
 }
 
-// One byte of a result.
-fn result_byte(words: [i64; 8], i: usize) -> u8
-    requires { i < result_length }
-    ensures { result ≡ get_or (word_bytes words) i 0 }
-{
-    let bytes = integers::word_bytes(words[i / 8]);
-    bytes[i % 8]
-}
-
-// The words into the lent bytes.
-fn put_words(words: [i64; 8], res: &mut [u8])
-    requires { length res.old ≡ result_length }
-    ensures { res.new ≡ word_bytes words }
-{
-    let mut i: usize = 0;
-    while i < RESULT_LENGTH {
-        res[i] = result_byte(words, i);
-        i += 1;
-    }
-}
-
-// Whole book: the answer is its refusal; 0 puts its figures into the 64 lent bytes.
-pub fn settle(book: &[u8], res: &mut [u8]) -> u32
-    ensures value { result ≡ settling_refusal book.now (length res.old) }
+// Whole book: its refusal, or its figures in the 64 lent bytes.
+pub fn settle(book: &[u8], res: &mut [u8]) -> Result<(), Refusal>
+    ensures value { number_told result ≡ settling_refusal book.now (length res.old) }
     ensures res_after { res.new ≡ settling_result book.now res.old }
 {
     if res.len() != RESULT_LENGTH {
-        return refusals::LENT_BYTES;
+        return Err(Refusal::LentBytes);
     }
-    let ending = read(book);
-    let closed = close(ending);
-    let refusal = closed.refusal;
-    if refusal != refusals::ACCEPTED {
-        return refusal;
-    }
-    let figures = closed.figures;
-    let words = words_of(figures);
-    put_words(words, res);
-    refusals::ACCEPTED
+    let figures = close(read(book))?;
+    res.copy_from_slice(words_of(figures).as_flattened());
+    Ok(())
 }

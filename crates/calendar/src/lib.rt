@@ -66,7 +66,7 @@ impl Month {
     fn common_days_before(self) -> u32
         ensures { result ≡ common_days_before self.number }
     {
-        DAYS_BEFORE[(self.number - 1) as usize]
+        DAYS_BEFORE[usize::from(self.number - 1)]
     }
 
     // Its days.
@@ -99,21 +99,20 @@ fn is_leap(year: u16) -> bool
 pub fn is_date(year: u16, month: u8, day: u8) -> bool
     ensures { result ≡ is_date year month day }
 {
-    match Month::new(month) {
-        Some(month) => { (2020..=2099).contains(&year) && (1..=month.days_in(year)).contains(&day) }
-        None => false,
-    }
+    (2020..=2099).contains(&year)
+        && Month::new(month).is_some_and(|month| (1..=month.days_in(year)).contains(&day))
 }
 
-// The count of a date in days from 2000-01-01, a Saturday, as 0.
+// The count of a date in days from 2000-01-01, a Saturday, as 0. Whoever asks has the three in a head: a date of its own would be made to
+// be taken apart.
 pub fn day_count(year: u16, month: u8, day: u8) -> u32
     requires { is_date year month day ≡ true }
     ensures counted { result ≡ day_count year month day }
     ensures within { (first_day ≤ result) × (result ≤ last_day) }
 {
-    let years = (year - 2000) as u32;
+    let years = u32::from(year - 2000);
     let month = Month { number: month };
-    365 * years + (years + 3) / 4 + month.days_before(year) + (day - 1) as u32
+    365 * years + (years + 3) / 4 + month.days_before(year) + u32::from(day - 1)
 }
 
 // The count's remainder by 7 gives the weekday: 0 Saturday, 1 Sunday.

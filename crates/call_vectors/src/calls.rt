@@ -2,9 +2,9 @@
 use crate::faults::Fault;
 use crate::parts;
 use crate::text::{FiguresText, Lent, Spaced, StateText};
-use figures::Figures;
 use ledger::Added;
 use numbers::DAYS_USED;
+use refusals::{index_told, number_told};
 use std::fmt;
 use std::io::Read;
 
@@ -17,91 +17,132 @@ const MOST_PLACES: usize = 8;
 
 const PLACES_LENGTH: usize = 64;
 
-// Prints an answer, which is a line.
-fn answer(rt: &impl Print, line: impl fmt::Display + Drop) -> Result<(), Fault> {
-    rt.println(line).map_err(|_| Fault::Unwritten)
+// The kinds of calls, by the numbers that docs/VECTORS.md gives them.
+#[derive(Clone, Copy, Debug, PartialEq, Eq)]
+pub enum Kind {
+    Opening,
+    Adding,
+    Closing,
+    WritingHead,
+    WritingPoint,
 }
 
-pub fn opening<R: Read>(rt: &impl Print, source: &mut R) -> Result<(), Fault> {
-    let mut head_room = [0; MOST_BYTES];
-    let head = parts::read_part(source, &mut head_room)?;
-    let mut calendar_room = [0; MOST_BYTES];
-    let calendar = parts::read_part(source, &mut calendar_room)?;
-    let (refusal, state) = match ledger::open(head, calendar) {
-        Ok(state) => (0, state),
-        Err(refusal) => (refusal.number(), ledger::states::no_state()),
-    };
-    let state = StateText(state);
-    answer(rt, format_args!("opening {refusal} {state}"))
-}
+impl TryFrom<u8> for Kind {
+    type Error = Fault;
 
-pub fn adding<R: Read>(rt: &impl Print, source: &mut R) -> Result<(), Fault> {
-    let state = parts::read_state(source)?;
-    let [tag, lent]: [u8; 2] = parts::read_array(source)?;
-    let count = usize::from(lent);
-    if MOST_PLACES < count {
-        return Err(Fault::Cut);
+    fn try_from(kind: u8) -> Result<Kind, Fault> {
+        match kind {
+            1 => Ok(Kind::Opening),
+            2 => Ok(Kind::Adding),
+            3 => Ok(Kind::Closing),
+            4 => Ok(Kind::WritingHead),
+            5 => Ok(Kind::WritingPoint),
+            _ => Err(Fault::Cut),
+        }
     }
-    let mut bytes = [0; PLACES_LENGTH];
-    parts::read_bytes(source, &mut bytes[..count * 8])?;
-    let mut held: [i64; MOST_PLACES] = parts::signed_list(&bytes);
-    let places = &mut held[..count];
-    let mut room = [0; MOST_BYTES];
-    let value = parts::read_part(source, &mut room)?;
-    let (refusal, index, added) = match ledger::add(state, tag, value, places) {
-        Ok(added) => (0, 0, added),
-        Err(refusal) => (
-            refusal.number(),
-            refusal.index(),
-            Added {
-                state,
-                days: [0; DAYS_USED],
-            },
-        ),
-    };
-    let after = StateText(added.state);
-    let days = Spaced(&added.days);
-    let places = Spaced(places);
-    answer(
-        rt,
-        format_args!("adding {refusal} index {index} {after} days{days} places{places}"),
-    )
 }
 
-pub fn closing<R: Read>(rt: &impl Print, source: &mut R) -> Result<(), Fault> {
-    let (refusal, figures) = match ledger::close(parts::read_state(source)?) {
-        Ok(figures) => (0, figures),
-        Err(refusal) => (refusal.number(), Figures::default()),
-    };
-    let figures = FiguresText(figures);
-    answer(rt, format_args!("closing {refusal} {figures}"))
+// Where calls come from, and where they are answered.
+#[derive(Drop)]
+pub struct Calls<'a, P: Print, R: Read> {
+    pub rt: &'a P,
+    pub source: &'a mut R,
 }
 
-pub fn writing_head<R: Read>(rt: &impl Print, source: &mut R) -> Result<(), Fault> {
-    let mut head_room = [0; MOST_BYTES];
-    let head = parts::read_part(source, &mut head_room)?;
-    let mut calendar_room = [0; MOST_BYTES];
-    let calendar = parts::read_part(source, &mut calendar_room)?;
-    let mut lent_room = [0; MOST_BYTES];
-    let lent = parts::read_part(source, &mut lent_room)?;
-    let refusal = refusals::number_told(writing::write_head(head, calendar, lent));
-    let lent = Lent(lent);
-    answer(rt, format_args!("writing head {refusal} {lent}"))
-}
+impl<P: Print, R: Read> Calls<'_, P, R> {
+    // The kind of the call that comes next; none where the input has ended.
+    pub fn next(&mut self) -> Result<Option<Kind>, Fault> {
+        let mut kind = [0u8; 1];
+        match input::fill(self.source, &mut kind) {
+            Ok(0) => Ok(None),
+            Ok(_) => Ok(Some(Kind::try_from(kind[0])?)),
+            Err(_) => Err(Fault::Unread),
+        }
+    }
 
-pub fn writing_point<R: Read>(rt: &impl Print, source: &mut R) -> Result<(), Fault> {
-    let [tag]: [u8; 1] = parts::read_array(source)?;
-    let mut value_room = [0; MOST_BYTES];
-    let value = parts::read_part(source, &mut value_room)?;
-    let mut lent_room = [0; MOST_BYTES];
-    let lent = parts::read_part(source, &mut lent_room)?;
-    let (number, index) = match writing::write_point(tag, value, lent) {
-        Ok(()) => (0, 0),
-        Err(refusal) => (refusal.number(), refusal.index()),
-    };
-    let lent = Lent(lent);
-    answer(
-        rt,
-        format_args!("writing point {number} index {index} {lent}"),
-    )
+    // Reads the call behind its kind, makes it and answers it.
+    pub fn make(&mut self, kind: Kind) -> Result<(), Fault> {
+        match kind {
+            Kind::Opening => self.opening(),
+            Kind::Adding => self.adding(),
+            Kind::Closing => self.closing(),
+            Kind::WritingHead => self.writing_head(),
+            Kind::WritingPoint => self.writing_point(),
+        }
+    }
+
+    // Prints an answer, which is a line.
+    fn answer(&self, line: impl fmt::Display + Drop) -> Result<(), Fault> {
+        self.rt.println(line).map_err(|_| Fault::Unwritten)
+    }
+
+    fn opening(&mut self) -> Result<(), Fault> {
+        let mut head_room = [0; MOST_BYTES];
+        let head = parts::read_part(self.source, &mut head_room)?;
+        let mut calendar_room = [0; MOST_BYTES];
+        let calendar = parts::read_part(self.source, &mut calendar_room)?;
+        let opened = ledger::open(head, calendar);
+        let refusal = number_told(opened);
+        let state = StateText(opened.unwrap_or(ledger::states::no_state()));
+        self.answer(format_args!("opening {refusal} {state}"))
+    }
+
+    fn adding(&mut self) -> Result<(), Fault> {
+        let state = parts::read_state(self.source)?;
+        let [tag, lent]: [u8; 2] = parts::read_array(self.source)?;
+        let count = usize::from(lent);
+        if MOST_PLACES < count {
+            return Err(Fault::Cut);
+        }
+        // As many of the places are lent as the call says.
+        let mut bytes = [0; PLACES_LENGTH];
+        parts::read_bytes(self.source, &mut bytes[..count * 8])?;
+        let mut held: [i64; MOST_PLACES] = parts::signed_list(&bytes);
+        let places = &mut held[..count];
+        let mut room = [0; MOST_BYTES];
+        let value = parts::read_part(self.source, &mut room)?;
+        let answer = ledger::add(state, tag, value, places);
+        let refusal = number_told(answer);
+        let index = index_told(answer);
+        let days = [0; DAYS_USED];
+        let added = answer.unwrap_or(Added { state, days });
+        let after = StateText(added.state);
+        let days = Spaced(&added.days);
+        let places = Spaced(places);
+        self.answer(format_args!(
+            "adding {refusal} index {index} {after} days{days} places{places}"
+        ))
+    }
+
+    fn closing(&mut self) -> Result<(), Fault> {
+        let closed = ledger::close(parts::read_state(self.source)?);
+        let refusal = number_told(closed);
+        let figures = FiguresText(closed.unwrap_or_default());
+        self.answer(format_args!("closing {refusal} {figures}"))
+    }
+
+    fn writing_head(&mut self) -> Result<(), Fault> {
+        let mut head_room = [0; MOST_BYTES];
+        let head = parts::read_part(self.source, &mut head_room)?;
+        let mut calendar_room = [0; MOST_BYTES];
+        let calendar = parts::read_part(self.source, &mut calendar_room)?;
+        let mut lent_room = [0; MOST_BYTES];
+        let lent = parts::read_part(self.source, &mut lent_room)?;
+        let refusal = number_told(writing::write_head(head, calendar, lent));
+        let lent = Lent(lent);
+        self.answer(format_args!("writing head {refusal} {lent}"))
+    }
+
+    fn writing_point(&mut self) -> Result<(), Fault> {
+        let [tag]: [u8; 1] = parts::read_array(self.source)?;
+        let mut value_room = [0; MOST_BYTES];
+        let value = parts::read_part(self.source, &mut value_room)?;
+        let mut lent_room = [0; MOST_BYTES];
+        let lent = parts::read_part(self.source, &mut lent_room)?;
+        let answer = writing::write_point(tag, value, lent);
+        let refusal = number_told(answer);
+        let index = index_told(answer);
+        let lent = Lent(lent);
+        self.answer(format_args!("writing point {refusal} index {index} {lent}"))
+    }
 }

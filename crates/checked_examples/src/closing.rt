@@ -11,10 +11,9 @@ fn figures_of(baseline: u32, first: u32, others: u32) -> Figures {
     handed::put_generator(&mut value, baseline, first, others);
     let mut places = [0; WINDOW_SLOTS];
     let state = handed::opened(0);
-    match ledger::add(state, Kind::Generator as u8, &value, &mut places) {
-        Ok(added) => ledger::close(added.state).unwrap_or_default(),
-        Err(_) => Figures::default(),
-    }
+    ledger::add(state, Kind::Generator as u8, &value, &mut places)
+        .and_then(|added| ledger::close(added.state))
+        .unwrap_or_default()
 }
 
 fn settled(rt: &impl Print, figures: Figures, due: &str) {

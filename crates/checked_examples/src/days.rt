@@ -8,15 +8,8 @@ use points::{CONSUMER_LENGTH, Kind};
 fn line(rt: &impl Print, asked: &str, mark: u8, value: &[u8], due: &str) {
     let mut places = [0; WINDOW_SLOTS];
     let state = handed::opened(mark);
-    let [first, second, third, fourth] = match ledger::add(
-        state,
-        Kind::Consumer as u8,
-        value,
-        &mut places,
-    ) {
-        Ok(added) => added.days,
-        Err(_) => [0; DAYS_USED],
-    };
+    let added = ledger::add(state, Kind::Consumer as u8, value, &mut places);
+    let [first, second, third, fourth] = added.map_or([0; DAYS_USED], |added| added.days);
     let days = format_args!("{first} {second} {third} {fourth}");
     text::line(rt, format_args!("days {asked}"), days, Due::ByHand(due));
 }

@@ -18,10 +18,9 @@ fn with_large(rt: &impl Print, asked: &str, first: usize, second: usize, due: &s
     handed::put_large(&mut value, second);
     let mut places = [0; WINDOW_SLOTS];
     let state = handed::opened(0);
-    let (refusal, index) = match ledger::add(state, Kind::Consumer as u8, &value, &mut places) {
-        Ok(_) => (0, 0),
-        Err(refusal) => (refusal.number(), refusal.index()),
-    };
+    let added = ledger::add(state, Kind::Consumer as u8, &value, &mut places);
+    let refusal = refusals::number_told(added);
+    let index = refusals::index_told(added);
     let answer = format_args!("refusal {refusal} index {index}");
     text::line(
         rt,

@@ -18,7 +18,7 @@ use text::Due;
 fn empty_book(rt: &impl Print) {
     let book = [0u8; 1];
     let mut result = [0; 64];
-    let refusal = book::settling::settle(&book[0..0], &mut result);
+    let refusal = refusals::number_told(book::settling::settle(&book[0..0], &mut result));
     text::line(
         rt,
         "empty book",

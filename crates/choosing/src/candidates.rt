@@ -11,7 +11,7 @@ pub struct Candidate {
     pub ghost small: { sum ≤ window_slots * most_reading },
 }
 
-// What stands where no day is in hand.
+// What stands where no day is in hand. The ghost field keeps Default from being derived.
 impl Default for Candidate {
     fn default() -> Self {
         Candidate { back: 0, sum: 0 }

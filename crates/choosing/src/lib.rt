@@ -31,6 +31,7 @@ fn keep(days: &mut Round)
 }
 
 // Rounds over the thirty days, until one drops no day or the days run out. A round goes on with the days that the one before it left.
+// Document 01 names the form: nested loops, and a label that leaves both.
 fn walk(eligible: [bool; DAYS_BACK], sums: &[u64]) -> Round
     requires { WindowSums sums.now }
     ensures { InHand (of_day sums.now) (standing (of_day sums.now) (days_from 1 eligible)) result.items }
@@ -59,7 +60,7 @@ fn walk(eligible: [bool; DAYS_BACK], sums: &[u64]) -> Round
     days
 }
 
-// The day with the lowest window sum; among equals the farthest.
+// The day with the lowest window sum; among equals the farthest, which `min_by_key` would say by an order alone.
 fn lowest_of(days: &Round) -> u8
     requires { 0 < array_vec_len days.now }
     ensures { (w : ℕ → ℕ) (some : List ℕ) → InHand w some days.now.items → result ≡ lowest w (get_or some 0 0) (drop 1 some) }
@@ -81,7 +82,8 @@ fn drop_lowest_of_five(days: &mut Round)
     }
 }
 
-// Of the eligible days the four that are used; none where there are fewer.
+// Of the eligible days the four that are used; none where there are fewer. The calendar gives one of the lists and the readings the other,
+// each whole.
 pub fn choose(eligible: [bool; DAYS_BACK], sums: &[u64]) -> Option<UsedDays>
     requires { WindowSums sums.now }
     ensures { let days = chosen (of_day sums.now) (days_from 1 eligible) in

@@ -10,11 +10,11 @@ use lib.ListN.{length, drop}
 use lib.Seq.{take_at, drop_at}
 use Rattle.fields.specs.Fields.{header_refusal}
 use Rattle.fields.proofs.Headers.{header_shows}
-use Rattle.feeding.specs.Feeding.{due_of, is_over, start_of, header_fed, end_fed, fed_at, feed_of, fed, most_feedings, FewerEnd}
-use Rattle.feeding.specs.Coming.{Coming, FedWhole}
+use Rattle.feeding.specs.Feeding.{due_of, is_over, start_of, header_fed, end_fed, fed_at, feed_of, fed, ending_fed, most_feedings, FewerEnd}
+use Rattle.feeding.specs.Coming.{Coming, FedWhole, EndsWhole}
 use Rattle.feeding.specs.declared.Wait.{Wait}
 use Rattle.feeding.specs.declared.Wait.TheVariants.{Header, Value, End, Nothing}
-use Rattle.feeding.specs.declared.Progress.{Progress}
+use Rattle.feeding.specs.Feeding.{Progress}
 use Rattle.feeding.proofs.Values.{value_cut}
 use Rattle.feeding.proofs.FieldByField.{fed_one, due_only}
 
@@ -82,3 +82,7 @@ module _ {turns : ℕ} {p after : Progress} (bytes : List ℕ) (c : Coming turns
           ∙ ap (fed (turns - 1) (feed_of p (bytes ++ left))) (drop_at bytes left (due_of p.wait) all_due)
           ∙ ap (λ q. fed (turns - 1) q left) (sym (due_only p (bytes ++ left)) ∙ ap (feed_of p) (take_at bytes left (due_of p.wait) all_due));
     })
+
+-- how it ended
+pub ends_whole : {p : Progress} → FedWhole p → EndsWhole (ending_fed p)
+ends_whole {p} whole = record { progress = p; fed_whole = whole; is = refl }

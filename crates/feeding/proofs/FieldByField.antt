@@ -22,15 +22,15 @@ use Rattle.book.specs.Reading.{read_points, read_book}
 use Rattle.book.specs.Endings.{refused_with, points_ending, book_ending}
 use Rattle.fields.specs.declared.Due.{Due}
 use Rattle.fields.specs.declared.Due.TheVariants.{Head, Calendar, Point}
-use Rattle.book.specs.declared.Ending.{Ending}
+use Rattle.book.specs.Endings.{Ending}
 use Rattle.fields.proofs.Headers.{header_shows}
 use Rattle.fields.proofs.Answers.{Answer, no_header, no_value, whole, answer}
 use Rattle.book.proofs.Endings.{at_end, past_end, point_not_cut, point_refused, point_taken, no_head_lem, no_calendar, not_opened, was_opened}
-use Rattle.feeding.specs.Feeding.{due_of, start_of, refused_at, waiting, header_fed, point_or_end, going, got, value_fed, end_fed, fed_at, feed_of, fed, ending_fed, FieldByField, DueOnly}
+use Rattle.feeding.specs.Feeding.{due_of, start_of, refused_at, waiting, header_fed, at_points, going, got, value_fed, end_fed, fed_at, feed_of, fed, ending_fed, FieldByField, DueOnly}
 use Rattle.feeding.proofs.Values.{value_cut, value_whole}
 use Rattle.feeding.specs.declared.Wait.{Wait}
 use Rattle.feeding.specs.declared.Wait.TheVariants.{Header, Value, End, Nothing}
-use Rattle.feeding.specs.declared.Progress.{Progress}
+use Rattle.feeding.specs.Feeding.{Progress}
 
 -- ---- a reading that has ended
 
@@ -96,9 +96,6 @@ module _ (due : Due) (p : Progress) (n : ℕ) (left : List ℕ) where
     value_taken h = second ∙ ap (λ q. fed n q (behind size left)) (value_whole due tag p (drop 3 left) (omega (arith, length-drop 3 left)))
 
 -- ---- the points
-
-abbrev at_points : State → Progress → Progress
-at_points state p = record { wait = point_or_end state.points state.head.count; head = p.head; state = state; refusal = 0 }
 
 module _ (state : State) (p : Progress) where
   point_due : state.points < state.head.count → at_points state p ≡ waiting (Header Point) (at_points state p)

@@ -1,7 +1,7 @@
 -- A book that comes from outside, part by part: how far it has come, and what there is to report (words that contracts use).
 use Rattle.std.specs.Prelude.{◌≡◌, List, ◌++◌, ℕ}
-use Rattle.feeding.specs.Feeding.{start_of, fed, most_feedings}
-use Rattle.feeding.specs.declared.Progress.{Progress}
+use Rattle.book.specs.Endings.{Ending}
+use Rattle.feeding.specs.Feeding.{Progress, start_of, fed, ending_fed, most_feedings}
 
 -- so many feedings are left: a book that begins with what has come ends as what comes next ends from here on
 pub record Coming (turns : ℕ) (p : Progress) : Type 0 where
@@ -12,3 +12,9 @@ pub record Coming (turns : ℕ) (p : Progress) : Type 0 where
 pub record FedWhole (p : Progress) : Type 0 where
   pub book : List ℕ
   pub is : fed most_feedings start_of book ≡ p
+
+-- how the reading of a whole book ended that was fed so
+pub record EndsWhole (ending : Ending) : Type 0 where
+  pub progress : Progress
+  pub fed_whole : FedWhole progress
+  pub is : ending_fed progress ≡ ending

@@ -12,10 +12,17 @@ use Rattle.book.specs.Reading.{read_book}
 use Rattle.book.specs.Endings.{book_ending}
 use Rattle.fields.specs.declared.Due.{Due}
 use Rattle.fields.specs.declared.Due.TheVariants.{Head, Calendar, Point}
-use Rattle.book.specs.declared.Ending.{Ending}
+use Rattle.book.specs.Endings.{Ending}
 use Rattle.feeding.specs.declared.Wait.{Wait}
 use Rattle.feeding.specs.declared.Wait.TheVariants.{Header, Value, End, Nothing}
-use Rattle.feeding.specs.declared.Progress.{Progress}
+
+-- How far a reading has come. The head is kept until the calendar comes; once nothing more is waited for, the refusal, or 0 and the state
+-- after the last point.
+pub record Progress : Type 0 where
+  pub wait : Wait
+  pub head : List ℕ
+  pub state : State
+  pub refusal : ℕ
 
 -- how many bytes are due; at the end one byte more would be one too many
 abbrev pub due_of : Wait → ℕ
@@ -56,12 +63,12 @@ header_fed due p bytes =
 abbrev pub point_or_end : ℕ → ℕ → Wait
 point_or_end points count = cond (ltb points count) (Header Point) End
 
+abbrev pub at_points : State → Progress → Progress
+at_points state p = record { wait = point_or_end state.points state.head.count; head = p.head; state = state; refusal = 0 }
+
 -- what opening or adding answers
 abbrev pub going : ℕ → State → Progress → Progress
-going refusal state p =
-    cond (eqb refusal 0)
-    (record { wait = point_or_end state.points state.head.count; head = p.head; state = state; refusal = 0 })
-    (refused_at refusal p)
+going refusal state p = cond (eqb refusal 0) (at_points state p) (refused_at refusal p)
 
 -- a whole value
 abbrev pub got : Due → ℕ → Progress → List ℕ → Progress

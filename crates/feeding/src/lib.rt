@@ -4,17 +4,19 @@
 ghost use Rattle.std.specs.Prelude.{◌≡◌, ◌≤◌, length};
 ghost use Rattle.heads.specs.Heads.{head_tag, head_length, calendar_tag};
 ghost use Rattle.points.specs.Points.{consumer_length};
-ghost use Rattle.feeding.specs.Feeding.{due_of, is_over, start_of, most_feedings, refused_at};
-ghost use Rattle.feeding.specs.Feeding.{header_fed, point_or_end, going, got, value_fed, end_fed, feed_of};
+ghost use Rattle.feeding.specs.Feeding.{due_of, is_over, start_of, most_feedings, point_or_end, at_points};
+ghost use Rattle.feeding.specs.Feeding.{header_fed, got, value_fed, end_fed, feed_of};
+ghost use Rattle.feeding.specs.Told.{progress_told, fed_told};
 ghost use Rattle.fields.specs.declared.Due.TheVariants.{Head, Calendar, Point};
 
-use fields::{Due, HEADER_LENGTH};
+use fields::{Due, HEADER_LENGTH, cutting};
 use heads::HEAD_LENGTH;
 use ledger::State;
 use numbers::WINDOW_SLOTS;
+use refusals::Refusal;
 
 // What is waited for: a header, the value behind one, the end of the book, or nothing more.
-#[derive(Clone, Copy)]
+#[derive(Clone, Copy, Debug, PartialEq, Eq)]
 pub enum Wait {
     Header(Due),
     Value(Due, u8),
@@ -22,37 +24,45 @@ pub enum Wait {
     Nothing,
 }
 
-// The head is kept until the calendar comes. Once nothing more is waited for, the refusal, or 0 and the state after the last point.
+// A reading that no refusal has ended. The head is kept until the calendar comes; once nothing more is waited for, the state is that after
+// the last point.
 #[derive(Clone, Copy)]
 pub struct Progress {
     pub wait: Wait,
     pub head: [u8; HEAD_LENGTH],
     pub state: State,
-    pub refusal: u32,
 }
 
-// How many bytes are due.
-pub fn due(wait: Wait) -> usize
-    ensures value { result ≡ due_of wait }
-    ensures bound { result ≤ consumer_length }
-{
-    match wait {
-        Wait::Header(_) => HEADER_LENGTH,
-        Wait::Value(kind, tag) => fields::cutting::length_due(kind, tag),
-        Wait::End => 1,
-        Wait::Nothing => 0,
+impl Wait {
+    // How many bytes are due.
+    pub fn due(self) -> usize
+        ensures value { result ≡ due_of self }
+        ensures bound { result ≤ consumer_length }
+    {
+        match self {
+            Wait::Header(_) => HEADER_LENGTH,
+            Wait::Value(kind, tag) => cutting::length_due(kind, tag),
+            Wait::End => 1,
+            Wait::Nothing => 0,
+        }
     }
-}
 
-// Whether the reading has ended.
-pub fn is_over(wait: Wait) -> bool
-    ensures { result ≡ is_over wait }
-{
-    match wait {
-        Wait::Header(_) => false,
-        Wait::Value(_, _) => false,
-        Wait::End => false,
-        Wait::Nothing => true,
+    // Whether the reading has ended.
+    pub fn is_over(self) -> bool
+        ensures { result ≡ is_over self }
+    {
+        matches!(self, Wait::Nothing)
+    }
+
+    // Points are due until the count is reached.
+    fn point_or_end(points: u32, count: u32) -> Wait
+        ensures { result ≡ point_or_end points count }
+    {
+        if points < count {
+            Wait::Header(Due::Point)
+        } else {
+            Wait::End
+        }
     }
 }
 
@@ -63,142 +73,104 @@ pub fn most_feedings() -> u32
     2 * (2 + heads::MOST_POINTS) + 1
 }
 
-// Before the first byte.
-pub fn start() -> Progress
-    ensures { result ≡ start_of }
-{
-    let state = ledger::states::no_state();
-    Progress {
-        wait: Wait::Header(Due::Head),
-        head: [0; HEAD_LENGTH],
-        state,
-        refusal: refusals::ACCEPTED,
+impl Progress {
+    // Before the first byte.
+    pub fn start() -> Progress
+        ensures { progress_told result ≡ start_of }
+    {
+        Progress {
+            wait: Wait::Header(Due::Head),
+            head: [0; HEAD_LENGTH],
+            state: ledger::states::no_state(),
+        }
     }
-}
 
-// A refusal ends the reading.
-fn refused_at(refusal: u32, progress: Progress) -> Progress
-    ensures { result ≡ refused_at refusal progress }
-{
-    Progress {
-        wait: Wait::Nothing,
-        state: ledger::states::no_state(),
-        refusal,
-        ..progress
+    // What follows an accepted opening or adding.
+    fn at_points(self, state: State) -> Progress
+        ensures { progress_told result ≡ at_points state (progress_told self) }
+    {
+        Progress {
+            wait: Wait::point_or_end(state.points, state.head.count),
+            state,
+            ..self
+        }
     }
-}
 
-// Points are due until the count is reached.
-fn point_or_end(points: u32, count: u32) -> Wait
-    ensures { result ≡ point_or_end points count }
-{
-    if points < count {
-        Wait::Header(Due::Point)
-    } else {
-        Wait::End
-    }
-}
-
-// What follows the answer of opening or adding.
-fn go_on(refusal: u32, state: State, progress: Progress) -> Progress
-    ensures { result ≡ going refusal state progress }
-{
-    if refusal != refusals::ACCEPTED {
-        return refused_at(refusal, progress);
-    }
-    Progress {
-        wait: point_or_end(state.points, state.head.count),
-        state,
-        refusal: refusals::ACCEPTED,
-        ..progress
-    }
-}
-
-#[tactic(auto, using(refusals::proofs::Refused::refused), unfolding(crate::specs::Feeding::header_fed))]
-fn feed_header(kind: Due, progress: Progress, bytes: &[u8]) -> Progress
-    ensures { result ≡ header_fed kind progress bytes.now }
-{
-    match fields::cutting::header_tag(kind, bytes) {
-        Ok(tag) => Progress {
+    #[tactic(auto, using(refusals::proofs::Refused::refused), unfolding(crate::specs::Feeding::header_fed))]
+    fn feed_header(self, kind: Due, bytes: &[u8]) -> Result<Progress, Refusal>
+        ensures { fed_told self result ≡ header_fed kind (progress_told self) bytes.now }
+    {
+        let tag = cutting::header_tag(kind, bytes)?;
+        Ok(Progress {
             wait: Wait::Value(kind, tag),
-            refusal: refusals::ACCEPTED,
-            ..progress
-        },
-        Err(refusal) => refused_at(refusal.number(), progress),
+            ..self
+        })
     }
-}
 
-// The bytes of a head are kept until the calendar comes.
-fn got_head(progress: Progress, value: &[u8]) -> Progress
-    requires { length value.now ≡ head_length }
-    ensures { result ≡ got Head head_tag progress value.now }
-{
-    Progress {
-        wait: Wait::Header(Due::Calendar),
-        head: numbers::array_of(value),
-        refusal: refusals::ACCEPTED,
-        ..progress
+    // The bytes of a head are kept until the calendar comes.
+    fn got_head(self, value: &[u8]) -> Progress
+        requires { length value.now ≡ head_length }
+        ensures { progress_told result ≡ got Head head_tag (progress_told self) value.now }
+    {
+        Progress {
+            wait: Wait::Header(Due::Calendar),
+            head: numbers::array_of(value),
+            ..self
+        }
     }
-}
 
-#[tactic(auto, using(refusals::proofs::Refused::refused))]
-fn got_calendar(progress: Progress, value: &[u8]) -> Progress
-    ensures { result ≡ got Calendar calendar_tag progress value.now }
-{
-    match ledger::open(&progress.head, value) {
-        Ok(state) => go_on(refusals::ACCEPTED, state, progress),
-        Err(refusal) => refused_at(refusal.number(), progress),
+    fn got_calendar(self, value: &[u8]) -> Result<Progress, Refusal>
+        ensures { fed_told self result ≡ got Calendar calendar_tag (progress_told self) value.now }
+    {
+        let state = ledger::open(&self.head, value)?;
+        Ok(self.at_points(state))
     }
-}
 
-#[tactic(auto, using(refusals::proofs::Refused::refused))]
-fn got_point(tag: u8, progress: Progress, value: &[u8]) -> Progress
-    ensures { result ≡ got Point tag progress value.now }
-{
-    let mut places = [0i64; WINDOW_SLOTS];
-    match ledger::add(progress.state, tag, value, &mut places) {
-        Ok(added) => go_on(refusals::ACCEPTED, added.state, progress),
-        Err(refusal) => refused_at(refusal.number(), progress),
+    fn got_point(self, tag: u8, value: &[u8]) -> Result<Progress, Refusal>
+        ensures { fed_told self result ≡ got Point tag (progress_told self) value.now }
+    {
+        let mut places = [0i64; WINDOW_SLOTS];
+        let added = ledger::add(self.state, tag, value, &mut places)?;
+        Ok(self.at_points(added.state))
     }
-}
 
-fn feed_value(kind: Due, tag: u8, progress: Progress, bytes: &[u8]) -> Progress
-    ensures { result ≡ value_fed kind tag progress bytes.now }
-{
-    let size = fields::cutting::length_due(kind, tag);
-    if bytes.len() < size {
-        return refused_at(refusals::BOOK_CUT, progress);
+    fn feed_value(self, kind: Due, tag: u8, bytes: &[u8]) -> Result<Progress, Refusal>
+        ensures { fed_told self result ≡ value_fed kind tag (progress_told self) bytes.now }
+    {
+        let size = cutting::length_due(kind, tag);
+        if bytes.len() < size {
+            return Err(Refusal::BookCut);
+        }
+        let value = &bytes[..size];
+        match kind {
+            Due::Head => Ok(self.got_head(value)),
+            Due::Calendar => self.got_calendar(value),
+            Due::Point => self.got_point(tag, value),
+        }
     }
-    let value = &bytes[0..size];
-    match kind {
-        Due::Head => got_head(progress, value),
-        Due::Calendar => got_calendar(progress, value),
-        Due::Point => got_point(tag, progress, value),
-    }
-}
 
-fn feed_end(progress: Progress, bytes: &[u8]) -> Progress
-    ensures { result ≡ end_fed progress bytes.now }
-{
-    if bytes.len() != 0 {
-        return refused_at(refusals::BYTES_AFTER, progress);
+    #[tactic(auto, unfolding(crate::specs::Feeding::end_fed))]
+    fn feed_end(self, bytes: &[u8]) -> Result<Progress, Refusal>
+        ensures { fed_told self result ≡ end_fed (progress_told self) bytes.now }
+    {
+        if !bytes.is_empty() {
+            return Err(Refusal::BytesAfter);
+        }
+        Ok(Progress {
+            wait: Wait::Nothing,
+            ..self
+        })
     }
-    Progress {
-        wait: Wait::Nothing,
-        refusal: refusals::ACCEPTED,
-        ..progress
-    }
-}
 
-// The bytes that come next, as many as are due: fewer mean that the book ends there.
-pub fn feed(progress: Progress, bytes: &[u8]) -> Progress
-    ensures { result ≡ feed_of progress bytes.now }
-{
-    let wait = progress.wait;
-    match wait {
-        Wait::Header(kind) => feed_header(kind, progress, bytes),
-        Wait::Value(kind, tag) => feed_value(kind, tag, progress, bytes),
-        Wait::End => feed_end(progress, bytes),
-        Wait::Nothing => progress,
+    // The bytes that come next, as many as are due: fewer mean that the book ends there. A refusal ends the reading.
+    pub fn feed(self, bytes: &[u8]) -> Result<Progress, Refusal>
+        ensures { fed_told self result ≡ feed_of (progress_told self) bytes.now }
+    {
+        match self.wait {
+            Wait::Header(kind) => self.feed_header(kind, bytes),
+            Wait::Value(kind, tag) => self.feed_value(kind, tag, bytes),
+            Wait::End => self.feed_end(bytes),
+            Wait::Nothing => Ok(self),
+        }
     }
 }

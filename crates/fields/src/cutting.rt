@@ -14,7 +14,7 @@ use refusals::Refusal;
 // Where a header's length begins.
 const LENGTH_AT: usize = 1;
 
-// The length that a value must have.
+// The length that a value must have. The name is the definition's.
 pub fn length_due(due: Due, tag: u8) -> usize
     ensures value { result ≡ length_due due tag }
     ensures bound { result ≤ consumer_length }
@@ -73,7 +73,7 @@ pub fn header_tag(due: Due, left: &[u8]) -> Result<u8, Refusal>
     short_refusal(due, left.len())?;
     let tag = left[0];
     tag_refusal(due, tag)?;
-    length_refusal(due, tag, numbers::word16_at(left, LENGTH_AT) as usize)?;
+    length_refusal(due, tag, usize::from(numbers::word16_at(left, LENGTH_AT)))?;
     Ok(tag)
 }
 

@@ -1,4 +1,5 @@
-// The lines of the figures of a settled book: its date, its points, the slot totals and the closing figures.
+// The lines of the figures of a settled book: its date, its points, the slot totals and the closing figures. Why they are put and not
+// written by `write!`: lines.
 #![tactic(auto, using(lines::proofs::Decimals::decimal_is, std::proofs::lemmas::Grind::common_steps))]
 
 ghost use Rattle.std.specs.Prelude.{◌≡◌, ◌+◌, ◌≤◌, ◌++◌};

@@ -1,2 +1,1 @@
-pub mod FigureSteps
 pub mod SlotTotals

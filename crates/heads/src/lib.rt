@@ -26,7 +26,8 @@ const LEAST_POINTS: u32 = 1;
 
 pub const MOST_POINTS: u32 = 10000;
 
-// Tags and lengths of the values of a head and a calendar (specs/Heads).
+// Tags and lengths of the values of a head and a calendar (specs/Heads). A tag is written once and matched once: an enum beside `Due`
+// would say it again.
 pub const HEAD_TAG: u8 = 1;
 
 pub const HEAD_LENGTH: usize = 17;
@@ -55,7 +56,7 @@ const CONTRACT_AT: usize = 11;
 pub const COUNT_AT: usize = 15;
 
 // The values of a head (document 01, 'The test book').
-#[derive(Clone, Copy, Debug, PartialEq, Eq)]
+#[derive(Clone, Copy, Debug, Default, PartialEq, Eq)]
 pub struct Head {
     pub year: u16,
     pub month: u8,
@@ -95,7 +96,7 @@ pub fn head_of(bytes: &[u8]) -> Head
     requires { length bytes.now ≡ head_length }
     ensures { result ≡ head_of bytes.now }
 {
-    head_with(numbers::word16_at(bytes, COUNT_AT) as u32, bytes)
+    head_with(u32::from(numbers::word16_at(bytes, COUNT_AT)), bytes)
 }
 
 // No such date, or a Saturday or Sunday.
@@ -151,7 +152,8 @@ pub fn count_refusal(count: u32) -> Result<(), Refusal>
     refusals::within(count, LEAST_POINTS..=MOST_POINTS, Refusal::Count)
 }
 
-// What opening refuses in the values of a head and a calendar, 2 to 8. It is also asked of a state's contents.
+// What opening refuses in the values of a head and a calendar, 2 to 8. It is also asked of a state's contents. Head
+// and marks stand side by side, as they do in the state, whose fields the definitions name.
 pub fn content_refusal(head: Head, marks: [u8; DAYS_BACK]) -> Result<(), Refusal>
     ensures { number_told result ≡ content_refusal head marks }
 {

@@ -1,11 +1,11 @@
 -- Signed numbers as the machine works with them: read back from bits, added. Over any width. Assumes nothing.
-use mathlib.Core.Path.{◌≡◌, refl, ◌∙◌}
+use mathlib.Core.Path.{◌≡◌, ◌∙◌}
 use Prim.Native.Nat.{◌+◌, ◌<◌, ◌≤◌, ◌^◌}
 use native.Mathlib.Omega.{arith}
 use lib.IntN.{ℤ, nat_abs, ◌+ℤ◌}
 use lib.Signed.{mag}
 use mir.Facts.{to_z-of_z}
-use mir.Syntax.{Width, w64}
+use mir.Syntax.{Width}
 use mir.Val.{hbits, to_z, of_z}
 use Rattle.std.proofs.lemmas.Int.{ints}
 
@@ -17,10 +17,6 @@ back w z = to_z w (of_z w z)
 -- a call's result, from what the call promises of it: `told w64 c.call.type_inv c.call.ensures`
 pub told : (w : Width) {y z : ℤ} → mag y < 2 ^ hbits w → y ≡ z → back w y ≡ z
 told w h e = to_z-of_z {w = w} (record { sfits = h }) ∙ e
-
--- a word of eight bytes reads back from its bits as it was
-pub word_back : (z : ℤ) → mag z < 2 ^ 63 → back w64 z ≡ z
-word_back z h = told w64 h refl
 
 -- ---- sums
 

@@ -45,7 +45,7 @@ pub fn minus(a: u64, b: u64) -> i64
     (a as i64) - (b as i64)
 }
 
-// The six slot totals together.
+// The six slot totals together. A loop: std's sum of signed numbers asks for a bound on each run.
 pub fn total_of(totals: [i64; WINDOW_SLOTS]) -> i64
     requires { (i : ℕ) → nat_abs (get_or totals i (pos 0)) ≤ most_summand }
     ensures { result ≡ sum_ℤ totals }
@@ -57,7 +57,7 @@ pub fn total_of(totals: [i64; WINDOW_SLOTS]) -> i64
     total
 }
 
-// Eight bytes in two's complement, high byte first.
+// Eight bytes in two's complement, high byte first. One a type, as numbers' words.
 pub fn word_bytes(z: i64) -> [u8; 8]
     ensures { result ≡ bytes_of 8 (twos_complement z) }
 {
@@ -71,7 +71,7 @@ pub fn signed_of(word: u64) -> i64
     word.cast_signed()
 }
 
-// The number with a sign in the eight bytes at a place.
+// The number with a sign in the eight bytes at a place. One a type, as numbers' words.
 pub fn signed_word_at(bytes: &[u8], at: usize) -> i64
     requires { at + 8 ≤ length bytes.now }
     ensures { result ≡ signed_word bytes.now at }

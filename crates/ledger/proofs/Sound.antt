@@ -24,7 +24,7 @@ use Rattle.numbers.proofs.Refusals.{clear}
 use Rattle.ledger.specs.declared.State.{State}
 use Rattle.ledger.specs.Operations.{Opened}
 use Rattle.ledger.specs.Operations.{Added}
-use Rattle.ledger.specs.declared.Closed.{Closed}
+use Rattle.ledger.specs.Operations.{Closed}
 use Rattle.numbers.proofs.Tests.{none_of, none_cons, no_false}
 use Rattle.integers.proofs.Machine.{sum_abs}
 use Rattle.heads.proofs.Opening.{opening_content, opens}

@@ -8,9 +8,9 @@ use Rattle.points.specs.Points.{kind_of, number_of, form_rows, number_row, value
 use Rattle.results.specs.SlotResults.{lacks_days, days_told, results}
 use Rattle.ledger.specs.States.{opened, no_state, slot_totals, is_unsound, taken}
 use Rattle.figures.specs.Figures.{figures_of, no_figures}
+use Rattle.figures.specs.declared.Figures.{Figures}
 use Rattle.heads.specs.declared.Head.{Head}
 use Rattle.ledger.specs.declared.State.{State}
-use Rattle.ledger.specs.declared.Closed.{Closed}
 
 -- THE ANSWERS. The refusal is a number, 0 is accepted.
 
@@ -25,6 +25,11 @@ pub record Added : Type 0 where
   pub state : State
   pub days : List ℕ
   pub index : ℕ
+
+-- of closing
+pub record Closed : Type 0 where
+  pub refusal : ℕ
+  pub figures : Figures
 
 -- OPENING
 unfoldable pub open_of : List ℕ → List ℕ → Opened

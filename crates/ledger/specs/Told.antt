@@ -7,9 +7,8 @@ use Rattle.numbers.specs.Slots.{no_days}
 use Rattle.figures.specs.Figures.{no_figures}
 use Rattle.figures.specs.declared.Figures.{Figures}
 use Rattle.ledger.specs.States.{no_state}
-use Rattle.ledger.specs.Operations.{Opened, Added}
+use Rattle.ledger.specs.Operations.{Opened, Added, Closed}
 use Rattle.ledger.specs.declared.State.{State}
-use Rattle.ledger.specs.declared.Closed.{Closed}
 use Rattle.ledger.specs.declared.Added.{Added as Given}
 
 abbrev pub opened_told : Result State Refusal → Opened

@@ -1,9 +1,9 @@
 // The refusals of adding, in the order in which they are told.
-ghost use Rattle.std.specs.Prelude.{◌≡◌};
+ghost use Rattle.std.specs.Prelude.{◌≡◌, IfOk};
 ghost use Rattle.numbers.specs.Refusals.{first_told};
 ghost use Rattle.refusals.specs.Told.{number_told};
 ghost use Rattle.points.specs.Points.{with_index};
-ghost use Rattle.points.specs.Told.{refusal_told};
+ghost use Rattle.points.specs.Told.{tag_of, refusal_told};
 ghost use Rattle.ledger.specs.Operations.{number_rows, state_rows, early_refusal};
 
 use crate::{State, states};
@@ -39,10 +39,11 @@ fn state_refusal(state: State) -> Result<(), Refusal>
     Ok(())
 }
 
-// 9 to 15, 16 or 50, 51 or 52: all that is told before the days are chosen, with the index of a reading.
+// The point, or what is told before the days are chosen: 9 to 15, 16 or 50, 51 or 52, with the index of a reading.
 #[tactic(auto, unfolding(crate::specs::Operations::early_refusal))]
-pub fn early_refusal(state: State, tag: u8, value: &[u8], places: usize) -> Result<(), Refusal>
-    ensures { refusal_told result ≡ with_index (early_refusal state tag value.now places) tag value.now }
+pub fn early_point(state: State, tag: u8, value: &[u8], places: usize) -> Result<Point<'_>, Refusal>
+    ensures told { refusal_told result ≡ with_index (early_refusal state tag value.now places) tag value.now }
+    ensures given { IfOk result (λ point. (tag_of point.kind ≡ tag) × (point.value.now ≡ value.now)) }
 {
     state_refusal(state)?;
     let point = Point::new(tag, value)?;
@@ -50,5 +51,6 @@ pub fn early_refusal(state: State, tag: u8, value: &[u8], places: usize) -> Resu
         return Err(Refusal::NotSixPlaces);
     }
     number_refusal(point.number(), state.points, state.last)?;
-    point.value_refusal()
+    point.value_refusal()?;
+    Ok(point)
 }

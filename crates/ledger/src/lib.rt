@@ -14,7 +14,7 @@ use numbers::{DAYS_BACK, DAYS_USED, NUMBER_LENGTH, WINDOW_SLOTS};
 use refusals::Refusal;
 
 // The settlement state. It goes in and comes back by value, and no field of it is trusted.
-#[derive(Clone, Copy)]
+#[derive(Clone, Copy, Default)]
 pub struct State {
     pub head: Head,
     // day 1 back first
@@ -32,13 +32,6 @@ pub struct State {
 pub struct Added {
     pub state: State,
     pub days: [u8; DAYS_USED],
-}
-
-// The answer of closing a book, while its endings tell a number.
-#[derive(Clone, Copy)]
-pub struct Closed {
-    pub refusal: u32,
-    pub figures: Figures,
 }
 
 // Opening: the head and the calendar of a test give a state with no points.
@@ -72,16 +65,13 @@ pub fn add(state: State, tag: u8, value: &[u8], places: &mut [i64]) -> Result<Ad
     ensures answer { added_told state result ≡ add_of state tag value.now (length places.old) }
     ensures lent { places.new ≡ places_of state tag value.now places.old }
 {
-    adding::early_refusal(state, tag, value, places.len())?;
-    let answer = results::results_of(state.head, state.marks, tag, value);
-    let Some(answer) = answer else {
-        return Err(Refusal::TooFewDays);
-    };
+    let point = adding::early_point(state, tag, value, places.len())?;
+    let answer = results::results_of(state.head, state.marks, point).ok_or(Refusal::TooFewDays)?;
     let found = answer.found;
     figures::totals::put(places, found);
     let before = states::slot_totals(state);
     let totals = figures::totals::add_totals(before, found);
-    let last = points::number_of(value);
+    let last = point.number();
     let days = answer.days;
     Ok(Added {
         state: State {

@@ -13,7 +13,7 @@ use refusals::Refusal;
 // The size that one slot result may have.
 const MOST_RESULT: u64 = 4000000000;
 
-// The state that an accepted opening gives.
+// The state that an accepted opening gives, with head and marks as its definition has them.
 pub fn opened_state(head: Head, marks: [u8; DAYS_BACK]) -> State
     ensures { result ≡ opened head marks }
 {
@@ -30,22 +30,7 @@ pub fn opened_state(head: Head, marks: [u8; DAYS_BACK]) -> State
 pub fn no_state() -> State
     ensures { result ≡ no_state }
 {
-    let head = Head {
-        year: 0,
-        month: 0,
-        day: 0,
-        slot: 0,
-        losses: [0; 3],
-        contract: 0,
-        count: 0,
-    };
-    State {
-        head,
-        marks: [0; DAYS_BACK],
-        points: 0,
-        totals: [0; WINDOW_SLOTS],
-        last: [0; NUMBER_LENGTH],
-    }
+    State::default()
 }
 
 // The slot totals of a state. Whoever reads them reads them here.
@@ -62,7 +47,7 @@ pub fn is_unsound(state: State) -> bool
 {
     heads::content_refusal(state.head, state.marks).is_err()
         || state.head.count < state.points
-        || figures::totals::has_beyond(slot_totals(state), MOST_RESULT * (state.points as u64))
+        || figures::totals::has_beyond(slot_totals(state), MOST_RESULT * u64::from(state.points))
         || 0 < state.points && !numbers::is_number(&state.last)
 }
 

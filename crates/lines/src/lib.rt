@@ -1,4 +1,5 @@
-// Words, numbers and lines, put behind the text so far.
+// Words, numbers and lines, put behind the text so far. Not by `write!` and `{:02}`: their contracts say what was written only where they
+// answer `Ok`, and not when they do.
 #![tactic(auto)]
 
 ghost use Rattle.std.specs.Prelude.{◌≡◌, ◌+◌, ◌≤◌, ◌++◌, length};
@@ -15,9 +16,7 @@ pub fn put<const ROOM: usize>(text: &mut ArrayVec<u8, ROOM>, word: &[u8])
     ensures bytes { text.new.items ≡ text.old.items ++ word.now }
     ensures len { array_vec_len text.new ≡ array_vec_len text.old + length word.now }
 {
-    let Ok(()) = text.try_extend_from_slice(word) else {
-        unreachable!();
-    };
+    text.try_extend_from_slice(word).unwrap();
 }
 
 // A number, as `{}` prints it.

@@ -1,5 +1,4 @@
 -- What chains of iterators give, in the words of specs/Lists. Assumes nothing.
-use mathlib.Core.Bool.{Bool, cond}
 use mathlib.Core.List.{List, ◌∷◌, map}
 use mathlib.Core.Path.{◌≡◌, refl, sym, ap, ◌∙◌}
 use Prim.Native.Nat.{ℕ, zero, suc, ◌<◌}
@@ -11,8 +10,8 @@ use Rattle.std.specs.Array.{IsMapOf}
 use Rattle.std.specs.List.{range_with_len}
 use Rattle.std.specs.List as list
 use Rattle.std.proofs.lemmas.List.{ext_get_or}
-use Rattle.std.proofs.lemmas.List.Recursion.{is_sum_by, same_from_clauses}
-use Rattle.numbers.specs.Lists.{run, sum, filter}
+use Rattle.std.proofs.lemmas.List.Recursion.{is_sum_by}
+use Rattle.numbers.specs.Lists.{run, sum}
 
 -- of `sum`
 pub sum_is : (xs : List ℕ) → list.sum xs ≡ sum xs
@@ -24,11 +23,6 @@ pub map_is : {A : Type 0} (f : ℕ → A) (i n : ℕ) → map f (range_with_len 
 unfolding run
 map_is f i zero = refl
 map_is f i (suc n) = rw add-one (ap (λ xs. f i ∷ xs) (map_is f (suc i) n))
-
--- of `filter` and `retain`
-pub filter_is : {A : Type 0} (test : A → Bool) (xs : List A) → list.filter test xs ≡ filter test xs
-unfolding filter
-filter_is test = same_from_clauses (list.filter test) (filter test) (λ x xs. cond (test x) (x ∷ xs) xs) refl (λ _ _. refl) (λ _ _. refl)
 
 -- of an array's `map`
 pub array_map_is : {F A B : Type 0} (g : Mut F (A × Unit {0}) B) (h : A → B) {f : F} {xs : List A} {ys : List B} (n : ℕ) (d : A)

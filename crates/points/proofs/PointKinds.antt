@@ -1,4 +1,4 @@
--- Kinds of point by their tags, and what a point of the right form or with allowed values shows. Assumes nothing.
+-- Kinds of point by their tags, and what a point with allowed values shows. Assumes nothing.
 use mathlib.Core.Path.{◌≡◌, refl, ap}
 use mathlib.Core.Logic.{◌⊎◌, inl, inr, ⊎_elim}
 use mathlib.Core.Bool.{Bool, true, false, cond, ◌||◌}
@@ -6,27 +6,20 @@ use mathlib.Core.List.{List}
 use Prim.Native.Nat.{ℕ, ◌+◌, ◌*◌, ◌≤◌, ◌<◌}
 use native.Mathlib.Omega.{arith}
 use lib.Dec.{T, eqb}
-use borrow.Author.Tests.{eqb-true, not-false, ne_eqb, lt-ltb}
+use borrow.Author.Tests.{ne_eqb, lt-ltb}
 use Rattle.numbers.specs.Lists.{any}
 use Rattle.numbers.specs.Refusals.{first_told}
-use Rattle.numbers.proofs.Refusals.{numbered, clear, untold}
+use Rattle.numbers.proofs.Refusals.{numbered, clear}
 use Rattle.numbers.proofs.Tests.{none_of}
 use Rattle.numbers.specs.PointNumbers.{number_length}
 use Rattle.readings.specs.Readings.{reading_length}
 use Rattle.points.specs.Points.{consumer_tag, generator_tag, mixed_firing_tag, consumer_length, Kind, consumer, generator, mixed_firing, unknown, kind_of}
-use Rattle.points.specs.Points.{is_unknown, size_of, readings_at, readings_in, is_unfit, large_at, has_large, unfit_number, is_of_test_day, large_number, is_of_reading, form_rows, unfit_row, value_rows}
+use Rattle.points.specs.Points.{is_unknown, size_of, readings_at, readings_in, is_unfit, large_at, has_large, unfit_number, is_of_test_day, large_number, is_of_reading, value_rows}
 
 module _ (tag : ℕ) where
   -- the kind of a tag that is some number: at the number of a kind it computes
   pub of_tag : (number : ℕ) → tag ≡ number → kind_of tag ≡ kind_of number
   of_tag number e = ap kind_of e
-
-  -- a tag of no kind of point
-  abbrev pub Other : Type 0
-  Other = (tag ≡ consumer_tag → ⊥) × (tag ≡ generator_tag → ⊥) × (tag ≡ mixed_firing_tag → ⊥)
-
-  pub is_unknown_lem : Other → kind_of tag ≡ unknown
-  is_unknown_lem n = simp (ne_eqb tag consumer_tag n.0, ne_eqb tag generator_tag n.1, ne_eqb tag mixed_firing_tag n.2)
 
 -- every kind of point has room for its number, and none is longer than a consumer
 pub known_length : (kind : Kind) → is_unknown kind ≡ false → number_length ≤ size_of kind
@@ -89,22 +82,9 @@ large_number_lem generator index = inl refl
 large_number_lem mixed_firing index = inl refl
 large_number_lem unknown index = inl refl
 
--- so it is above those of the other rows, and told with an index
+-- so it is above those of the other rows
 pub large_above : {number : ℕ} → Large number → 50 < number
 large_above = ⊎_elim (λ e. omega arith) (λ e. omega arith)
-
-pub large_of_reading : {number : ℕ} → Large number → is_of_reading number ≡ true
-large_of_reading = ⊎_elim (ap is_of_reading) (ap is_of_reading)
-
--- ---- a point of the right form
-
-module _ (tag size : ℕ) (form : first_told (form_rows tag size) ≡ 0) where
-  pub right_length : size ≡ size_of (kind_of tag)
-  right_length = eqb-true _ _ (not-false _ (untold (form_rows tag size) tt form 12))
-
-  -- every point has its number
-  pub long_enough : number_length ≤ size
-  long_enough = omega (arith, right_length, known_length (kind_of tag) (untold (form_rows tag size) tt form 11))
 
 -- ---- a point with allowed values
 
@@ -120,9 +100,6 @@ module _ (tag : ℕ) (value : List ℕ) where
   rows_above = (unfit_above (kind_of tag), omega (arith, large_above (large_number_lem (kind_of tag) (large_at (kind_of tag) value))))
 
   -- none of them is 0
-  pub unfit_numbered : T (numbered (unfit_row tag value))
-  unfit_numbered = rw (lt-ltb 0 unfit (omega (arith, rows_above.0))) tt
-
   pub values_numbered : T (numbered (value_rows tag value))
   values_numbered = rw (lt-ltb 0 unfit (omega (arith, rows_above.0)), lt-ltb 0 large (omega (arith, rows_above.1))) tt
 

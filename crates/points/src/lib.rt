@@ -10,7 +10,6 @@ ghost use Rattle.points.specs.Points.{tag_row, form_rows, class_row, unfit_row, 
 ghost use Rattle.points.specs.Told.{tag_of, class_number, refusal_told};
 
 use numbers::{NUMBER_LENGTH, SLOTS_OF_DAY};
-use readings::READING_LENGTH;
 use refusals::Refusal;
 
 pub const CONSUMER_LENGTH: usize = 5975;
@@ -101,18 +100,15 @@ impl Kind {
 pub fn value_length(tag: u8) -> usize
     ensures { result ≡ size_of (kind_of tag) }
 {
-    match Kind::try_from(tag) {
-        Ok(kind) => kind.value_length(),
-        Err(_) => 0,
-    }
+    Kind::try_from(tag).map_or(0, Kind::value_length)
 }
 
 // The voltage classes of consumers.
 #[derive(Clone, Copy, Debug, PartialEq, Eq)]
 pub enum Class {
-    Low = 1,
-    High = 2,
-    ExtraHigh = 3,
+    Low,
+    High,
+    ExtraHigh,
 }
 
 impl TryFrom<u8> for Class {
@@ -143,7 +139,7 @@ impl Class {
     }
 }
 
-// The point number at the front of a value.
+// The point number at the front of a value: the paper's term, also for callers without a point.
 pub fn number_of(value: &[u8]) -> [u8; NUMBER_LENGTH]
     requires { number_length ≤ length value.now }
     ensures { result ≡ number_of value.now }
@@ -202,13 +198,10 @@ impl<'a> Point<'a> {
     fn large_refusal(self) -> Result<(), Refusal>
         ensures { refusal_told result ≡ with_index (first_told (large_row (tag_of self.entry.kind) self.entry.value.now)) (tag_of self.entry.kind) self.entry.value.now }
     {
-        let readings = &self.value[self.kind.readings_at()..];
-        let count = readings.len() / READING_LENGTH;
-        let index = readings::first_large(readings, count);
-        if index < count {
-            return Err(self.kind.large(index as u32));
+        match readings::first_large(&self.value[self.kind.readings_at()..]) {
+            Some(index) => Err(self.kind.large(index as u32)),
+            None => Ok(()),
         }
-        Ok(())
     }
 
     // A class, a baseline, a share or a reading that is not allowed.

@@ -7,7 +7,7 @@ use lib.ListN.{length}
 use Rattle.book.specs.Reading.{read_book}
 use Rattle.book.specs.Endings.{book_ending, closed_after}
 use Rattle.book.specs.Settling.{closing_of, result_length, settling_refusal}
-use Rattle.book.specs.declared.Ending.{Ending}
+use Rattle.book.specs.Endings.{Ending}
 use Rattle.book.proofs.Endings.{closed_reads, all_settled}
 use Rattle.printing.specs.Printed.{settled_text, refused_text, text_of, TextTells}
 

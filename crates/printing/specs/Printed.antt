@@ -3,12 +3,12 @@
 use Rattle.std.specs.Prelude.{◌≡◌, cond, List, ℕ, ◌≤◌, eqb, length}
 use Rattle.ledger.specs.States.{slot_totals}
 use Rattle.ledger.specs.declared.State.{State}
-use Rattle.ledger.specs.declared.Closed.{Closed}
+use Rattle.ledger.specs.Operations.{Closed}
 use Rattle.figures.specs.declared.Figures.{Figures}
 use Rattle.book.specs.Reading.{good, Book, read_book}
 use Rattle.book.specs.Endings.{book_ending, closed_after}
 use Rattle.book.specs.Settling.{result_length, result_bytes, settling_refusal, settling_result}
-use Rattle.book.specs.declared.Ending.{Ending}
+use Rattle.book.specs.Endings.{Ending}
 use Rattle.feeding.specs.Feeding.{start_of, fed, ending_fed, most_feedings}
 use Rattle.lines.specs.Numerals.{decimal}
 use Rattle.lines.specs.Line.{line}
@@ -28,10 +28,6 @@ text_by state closed = cond (eqb closed.refusal 0) (settled_text state closed.fi
 -- THE TEXT of a book whose reading has ended: a refusal, of the reading or of closing, leaves no figures to print
 unfoldable pub text_of : Ending → List ℕ
 text_of ending = text_by ending.state (closed_after ending)
-
--- the bytes that have room for any text
-abbrev pub text_room : ℕ
-text_room = 640
 
 -- the text of a book
 abbrev pub book_text : List ℕ → List ℕ

@@ -1,43 +1,39 @@
 // The text of a settled or refused book, as settle_book prints it.
 #![tactic(auto)]
 
-ghost use Rattle.std.specs.Prelude.{◌≡◌, ◌≤◌, length};
-ghost use Rattle.io.specs.Counts.{IsPrefixLen};
-ghost use Rattle.numbers.specs.Placing.{at_front};
-ghost use Rattle.printing.specs.Printed.{text_of, text_room};
+ghost use Rattle.std.specs.Prelude.{◌≡◌, IfOk};
+ghost use Rattle.refusals.specs.Told.{number_told};
+ghost use Rattle.book.specs.Endings.{closed_after};
+ghost use Rattle.book.specs.Told.{ending_told};
+ghost use Rattle.printing.specs.Printed.{text_of};
 
 use arrayvec::ArrayVec;
-use book::Ending;
+use figures::Figures;
+use ledger::{State, states};
+use refusals::Refusal;
 
 // The bytes that have room for any text.
 pub const TEXT_ROOM: usize = 640;
 
-// The one line of a refused book, or the lines of a settled one.
-fn text_of(ending: Ending) -> ArrayVec<u8, TEXT_ROOM>
-    ensures { result.items ≡ text_of ending }
+// What is printed of a book that nothing refused: the state after its last point, and its figures.
+fn settled(ending: Result<State, Refusal>) -> Result<(State, Figures), Refusal>
+    ensures refusal { number_told result ≡ (closed_after (ending_told ending)).refusal }
+    ensures settled { IfOk result (λ settled. (settled.0 ≡ (ending_told ending).state) × (settled.1 ≡ (closed_after (ending_told ending)).figures)) }
 {
-    let mut text = ArrayVec::new();
-    let closed = book::settling::close(ending);
-    let refusal = closed.refusal;
-    if refusal != refusals::ACCEPTED {
-        lines::put_line(&mut text, b"refused ", refusal);
-        return text;
-    }
-    let state = ending.state;
-    let totals = ledger::states::slot_totals(state);
-    figure_lines::put_figures(&mut text, state.head, totals, closed.figures);
-    text
+    let figures = book::settling::close(ending)?;
+    Ok((ending?, figures))
 }
 
-// Puts the text at the front of the lent bytes, which have room for any, and answers how long it is.
-pub fn write_text(ending: Ending, out: &mut [u8; TEXT_ROOM]) -> usize
-    ensures value { result ≡ length (text_of ending) }
-    ensures bound { result ≤ text_room }
-    ensures out_after { out.new ≡ at_front (text_of ending) out.old }
-    ensures prefix_len { IsPrefixLen result out.new }
+// The one line of a refused book, or the lines of a settled one.
+pub fn text_of(ending: Result<State, Refusal>) -> ArrayVec<u8, TEXT_ROOM>
+    ensures { result.items ≡ text_of (ending_told ending) }
 {
-    let text = text_of(ending);
-    let size = text.len();
-    out[..size].copy_from_slice(text.as_slice());
-    size
+    let mut text = ArrayVec::new();
+    match settled(ending) {
+        Ok((state, figures)) => {
+            figure_lines::put_figures(&mut text, state.head, states::slot_totals(state), figures);
+        }
+        Err(refusal) => lines::put_line(&mut text, b"refused ", refusal.number()),
+    }
+    text
 }

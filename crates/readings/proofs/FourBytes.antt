@@ -2,14 +2,13 @@
 use mathlib.Core.Bool.{Bool, true, false, cond, not}
 use mathlib.Core.List.{List, [], ◌∷◌}
 use mathlib.Core.Path.{◌≡◌, refl, ap}
-use Prim.Native.Nat.{ℕ, zero, suc, ◌+◌, ◌*◌, ◌/◌, ◌%◌, ◌<◌, ◌≤◌}
+use Prim.Native.Nat.{ℕ, zero, suc, ◌+◌, ◌%◌, ◌<◌, ◌≤◌}
 use native.Mathlib.Omega.{arith}
 use borrow.Author.Tests.{le-ltb}
 use lib.Bits.{bit_or, or_add_and, and_le_r, or_comm, or_mod}
 use lib.Dec.{ltb}
 use lib.ListN.{length, get_or, take, drop}
-use lib.Seq.{get_or-take, get_or-drop, take-take, length-take-le}
-use Rattle.std.proofs.lemmas.List.{drop-take}
+use lib.Seq.{get_or-take, get_or-drop}
 use mir.Syntax.{w32}
 use Rattle.std.specs.Int.{from_le_bytes}
 use Rattle.std.specs.List.{fold, All, position_or_len}
@@ -51,20 +50,7 @@ first_word readings =
     let at = λ (k : ℕ) (h : k < 4). get_or-take 4 readings k 0 h in
     omega (arith, at 0 (omega arith), at 1 (omega arith), at 2 (omega arith), at 3 (omega arith))
 
--- the arrays of the first n readings
-chunks_in : (n : ℕ) (readings : List ℕ) → first_chunks 4 n (take (n * 4) readings) ≡ first_chunks 4 n readings
-chunks_in zero readings = refl
-chunks_in (suc n) readings =
-    let size : suc n * 4 ≡ 4 + n * 4 = omega arith in
-    let front : take 4 (take (4 + n * 4) readings) ≡ take 4 readings = take-take 4 (4 + n * 4) readings (omega arith) in
-    rw (size, front, drop-take 4 (n * 4) readings, chunks_in n (drop 4 readings))
-
-pub chunks_are : (n : ℕ) (readings : List ℕ) → n * 4 ≤ length readings
-    → first_chunks 4 (length (take (n * 4) readings) / 4) (take (n * 4) readings) ≡ first_chunks 4 n readings
-chunks_are n readings room =
-    let size : length (take (n * 4) readings) / 4 ≡ n = omega (arith, length-take-le (n * 4) readings room) in
-    rw size (chunks_in n readings)
-
+-- there are n arrays of the first n readings
 pub chunks_length : (n : ℕ) (readings : List ℕ) → length (first_chunks 4 n readings) ≡ n
 chunks_length zero readings = refl
 chunks_length (suc n) readings = ap suc (chunks_length n (drop 4 readings))

@@ -1,5 +1,5 @@
 -- A consumer's readings (document 01, 'The test book' and 'Days'): 1,488 of four bytes, the test day's 48, then days 1 to 30 back.
-use Rattle.std.specs.Prelude.{◌≡◌, cond, List, map, ℕ, zero, suc, ◌+◌, ◌*◌, ◌-◌, ◌<◌, ◌≤◌, ltb, length, drop, get_or}
+use Rattle.std.specs.Prelude.{◌≡◌, cond, List, map, ℕ, zero, suc, ◌+◌, ◌*◌, ◌-◌, ◌/◌, ◌<◌, ◌≤◌, ltb, length, drop, get_or, Option, Some, None}
 use Rattle.numbers.specs.Lists.{run, sum}
 use Rattle.numbers.specs.Slots.{slots_of_day, days_back, window_slots}
 use Rattle.numbers.specs.Words.{word32}
@@ -24,6 +24,13 @@ most_reading = 1_000_000_000
 unfoldable pub first_large : List ℕ → ℕ → ℕ
 first_large readings zero = 0
 first_large readings (suc n) = cond (ltb most_reading (word32 readings 0)) 0 (suc (first_large (drop reading_length readings) n))
+
+-- the same of all readings that some bytes hold, or none
+abbrev pub large_place : List ℕ → Option ℕ
+large_place readings =
+    let n = length readings / reading_length in
+    let place = first_large readings n in
+    cond (ltb place n) (Some place) None
 
 -- slot i, 0 to 47, of day k back; day 0 is the test day
 abbrev pub reading : List ℕ → ℕ → ℕ → ℕ

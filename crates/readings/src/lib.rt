@@ -3,7 +3,7 @@
 
 ghost use Rattle.std.specs.Prelude.{◌≡◌, ◌<◌, ◌≤◌, ◌+◌, ◌-◌, ◌*◌, ◌%◌, length, IsTrue, All, slice_index};
 ghost use Rattle.numbers.specs.Slots.{days_back, window_slots};
-ghost use Rattle.readings.specs.Readings.{reading_length, earlier_by, first_large, reading};
+ghost use Rattle.readings.specs.Readings.{earlier_by, large_place, reading};
 ghost use Rattle.readings.specs.Readings.{window_sum, window_sums, slot_sum, slot_sums, earlier_use, Back, HasWindow};
 
 use numbers::{DAYS_BACK, DAYS_USED, SLOTS_OF_DAY, WINDOW_SLOTS, word32_at};
@@ -43,19 +43,17 @@ fn are_small(readings: &[[u8; READING_LENGTH]]) -> bool
     all % 256 < 32
 }
 
-// The first of n readings that is too large, counted from 0, or n.
-pub fn first_large(readings: &[u8], n: usize) -> usize
-    requires { n * reading_length ≤ length readings.now }
-    ensures { result ≡ first_large readings.now n }
+// The first reading that is too large, counted from 0.
+pub fn first_large(readings: &[u8]) -> Option<usize>
+    ensures { result ≡ large_place readings.now }
 {
-    let (readings, _) = readings[..n * READING_LENGTH].as_chunks::<READING_LENGTH>();
+    let (readings, _) = readings.as_chunks::<READING_LENGTH>();
     if are_small(readings) {
-        return n;
+        return None;
     }
     readings
         .iter()
         .position(|reading| MOST_READING < word32_at(reading, 0))
-        .unwrap_or(n)
 }
 
 impl<'a> Window<'a> {
@@ -71,7 +69,7 @@ impl<'a> Window<'a> {
         }
     }
 
-    // A day's reading in slot j of the window.
+    // A day's reading in slot j of the window. One at a time: `map` over the four days does not hand on that each lies within thirty.
     pub fn reading(&self, day: usize, j: usize) -> u32
         requires { (day ≤ days_back) × (j < window_slots) }
         ensures { result ≡ reading self.now.readings.now day (self.now.slot + j) }

@@ -4,9 +4,7 @@ use mathlib.Core.Bool.{true, false}
 use mathlib.Core.List.{List}
 use Prim.Native.Nat.{ℕ, ◌+◌, ◌-◌, ◌≤◌}
 use native.Mathlib.Omega.{arith}
-use lib.Dec.{leb}
 use lib.ListN.{length, get_or, take, drop, length-drop}
-use mir.Facts.{leb_yes}
 use borrow.Author.Tests.{not-false, le-ltb}
 use Rattle.std.specs.Prelude.{Some, None}
 use Rattle.numbers.specs.Lists.{run}
@@ -20,11 +18,11 @@ use Rattle.choosing.specs.Days.{AtMost}
 use Rattle.baseline.specs.Baseline.{chosen_days, baselines_on}
 use Rattle.baseline.specs.Consumers.{Tested, most_consumer_baseline}
 use Rattle.baseline.proofs.Bounds.{baselines_bound}
-use Rattle.heads.specs.Limits.{most_loss, low_class, extra_high_class}
+use Rattle.heads.specs.Limits.{most_loss}
 use Rattle.heads.specs.Heads.{test_day, counts, content_tests, content_refusal}
 use Rattle.heads.specs.declared.Head.{Head}
-use Rattle.heads.proofs.Opening.{both, opens}
-use Rattle.points.specs.Points.{consumer, consumer_readings_at, class_of}
+use Rattle.heads.proofs.Opening.{opens}
+use Rattle.points.specs.Points.{consumer, consumer_readings_at}
 use Rattle.results.specs.SlotResults.{loss_of, days_of, consumer_quotient, quotients, rounded, results}
 use Rattle.results.specs.Steps.{Passed, consumer_slot, found_of}
 use Rattle.results.proofs.SlotResults.{map_run}
@@ -34,9 +32,6 @@ module _ {h : Head} {marks v : List ℕ} (p : Passed h marks consumer v) where
   pub dated : is_date h.year h.month h.day ≡ true
   unfolding content_refusal
   dated = not-false _ (untold (content_tests counts h marks) tt p.content 2)
-
-  pub classed : (low_class ≤ class_of v) × (class_of v ≤ extra_high_class)
-  classed = let t = both (leb low_class (class_of v)) (leb (class_of v) extra_high_class) p.fit in (leb_yes t.0, leb_yes t.1)
 
   pub lossy : loss_of h v ≤ most_loss
   lossy = (opens h marks p.content).losses _

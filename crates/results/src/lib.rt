@@ -9,6 +9,7 @@ ghost use Rattle.choosing.specs.Days.{AtMost};
 ghost use Rattle.baseline.specs.Consumers.{most_consumer_baseline};
 ghost use Rattle.heads.specs.Limits.{most_loss, most_baseline, most_share};
 ghost use Rattle.points.specs.Points.{consumer, generator_length, mixed_firing_length, kind_of, baseline_of, share_of};
+ghost use Rattle.points.specs.Told.{tag_of};
 ghost use Rattle.results.specs.SlotResults.{consumer_quotient, generator_quotient, mixed_firing_quotient, rounded};
 ghost use Rattle.results.specs.SlotResults.{generator_quotients, mixed_firing_quotients};
 ghost use Rattle.results.specs.Steps.{Passed, consumer_slot, all_found, found_of};
@@ -18,12 +19,12 @@ use heads::Head;
 use numbers::{DAYS_BACK, DAYS_USED, WINDOW_SLOTS};
 use points::{
     BASELINE_AT, CLASS_AT, CONSUMER_READINGS_AT, Class, GENERATOR_READINGS_AT, Kind,
-    MIXED_FIRING_READINGS_AT, SHARE_AT,
+    MIXED_FIRING_READINGS_AT, Point, SHARE_AT,
 };
 use readings::{READING_LENGTH, Window};
 use std::array;
 
-// The six results and, of a consumer, its four days; zeros of any other point.
+// The six results and, of a consumer, its four days; zeros of any other point, as CR 2 names them.
 #[derive(Clone, Copy)]
 pub struct Found {
     pub found: [i64; WINDOW_SLOTS],
@@ -36,8 +37,8 @@ fn consumer_result(loss: u16, base: u64, used: u32) -> i64
     requires { (loss ≤ most_loss) × (base ≤ most_consumer_baseline) × (used ≤ most_reading) }
     ensures { result ≡ rounded (consumer_quotient loss base used) }
 {
-    let above = integers::minus(10000 * base, 240000 * (used as u64));
-    integers::floor_div(above, 24 * (10000 - (loss as u32)))
+    let above = integers::minus(10000 * base, 240000 * u64::from(used));
+    integers::floor_div(above, 24 * (10000 - u32::from(loss)))
 }
 
 // One slot of a generator.
@@ -45,7 +46,7 @@ fn generator_result(baseline: u32, metered: u32) -> i64
     requires { baseline ≤ most_baseline }
     ensures { result ≡ rounded (generator_quotient baseline metered) }
 {
-    integers::minus(metered as u64, 500 * (baseline as u64))
+    integers::minus(u64::from(metered), 500 * u64::from(baseline))
 }
 
 // One slot of a mixed-firing plant: the two readings are added first, so that one division is rounded.
@@ -53,8 +54,8 @@ fn mixed_firing_result(share: u16, outside: u32, inside: u32) -> i64
     requires { share ≤ most_share }
     ensures { result ≡ rounded (mixed_firing_quotient share outside inside) }
 {
-    let together = (outside as u64) + (inside as u64);
-    let counted = together * (1000 - (share as u64));
+    let together = u64::from(outside) + u64::from(inside);
+    let counted = together * (1000 - u64::from(share));
     integers::floor_div(counted as i64, 1000)
 }
 
@@ -70,7 +71,7 @@ fn consumer_results(
     array::from_fn(|j| consumer_result(loss, slots[j], consumer.used(j)))
 }
 
-// A consumer: its days, the baseline on them, then the results; none where there are not four days.
+// A consumer: its days, the baseline on them, then the results; none where there are not four days. Head and marks are the state's.
 fn consumer_found(head: Head, marks: [u8; DAYS_BACK], value: &[u8]) -> Option<Found>
     requires { Passed head marks consumer value.now }
     ensures { result ≡ found_of head marks consumer value.now }
@@ -92,7 +93,7 @@ fn consumer_found(head: Head, marks: [u8; DAYS_BACK], value: &[u8]) -> Option<Fo
     Some(Found { found, days: told })
 }
 
-// A generator: whatever the head and the calendar.
+// A generator: whatever the head and the calendar. A function a kind, as the paper has it; a third one around both would be no plainer.
 fn generator_found(value: &[u8]) -> Found
     requires { (length value.now ≡ generator_length) × (baseline_of value.now ≤ most_baseline) }
     ensures { result ≡ all_found (generator_quotients value.now) }
@@ -128,14 +129,15 @@ fn mixed_firing_found(value: &[u8]) -> Found
     }
 }
 
-// The results of a point's value, by its kind; none of a consumer with fewer than four days.
-pub fn results_of(head: Head, marks: [u8; DAYS_BACK], tag: u8, value: &[u8]) -> Option<Found>
-    requires { Passed head marks (kind_of tag) value.now }
-    ensures { result ≡ found_of head marks (kind_of tag) value.now }
+// The results of a point, by its kind; none of a consumer with fewer than four days.
+#[tactic(auto, unfolding(crate::specs::Steps::found_of, crate::specs::SlotResults::quotients))]
+pub fn results_of(head: Head, marks: [u8; DAYS_BACK], point: Point) -> Option<Found>
+    requires { Passed head marks (kind_of (tag_of point.kind)) point.value.now }
+    ensures { result ≡ found_of head marks (kind_of (tag_of point.entry.kind)) point.entry.value.now }
 {
-    match Kind::try_from(tag).ok()? {
-        Kind::Consumer => consumer_found(head, marks, value),
-        Kind::Generator => Some(generator_found(value)),
-        Kind::MixedFiring => Some(mixed_firing_found(value)),
+    match point.kind {
+        Kind::Consumer => consumer_found(head, marks, point.value),
+        Kind::Generator => Some(generator_found(point.value)),
+        Kind::MixedFiring => Some(mixed_firing_found(point.value)),
     }
 }

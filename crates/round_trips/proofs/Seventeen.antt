@@ -14,7 +14,7 @@ use Rattle.numbers.proofs.NeverTold.{Without, never}
 use Rattle.heads.specs.Heads.{opening_tests, opening_refusal}
 use Rattle.ledger.specs.Operations.{open_of, closing_tests, closing_refusal, close_of}
 use Rattle.ledger.specs.declared.State.{State}
-use Rattle.ledger.specs.declared.Closed.{Closed}
+use Rattle.ledger.specs.Operations.{Closed}
 use Rattle.ledger.proofs.Sound.{open_refusal, close_refusal}
 use Rattle.calls.proofs.TooLarge.{adding_not_seventeen}
 use Rattle.fields.specs.Fields.{tag_at, length_due, field_tests, field_refusal, Value, Refused, field_of}
@@ -25,7 +25,7 @@ use Rattle.writing.proofs.TooLarge.{writing_not_seventeen}
 use Rattle.book.specs.Reading.{Reading, refused, good, ◌>>=◌, unless, Part, handed_on, field, open_test, add_point, Points, Book, read_points, read_book}
 use Rattle.book.specs.Endings.{book_ending, closed_after}
 use Rattle.book.specs.Settling.{result_length, closing_of, settling_refusal}
-use Rattle.book.specs.declared.Ending.{Ending}
+use Rattle.book.specs.Endings.{Ending}
 use Rattle.round_trips.specs.Seventeen.{NoSeventeen}
 
 not_told : (rows : List (Bool × ℕ)) → Without (λ n. eqb n 17) rows → first_told rows ≡ 17 → ⊥

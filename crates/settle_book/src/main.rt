@@ -1,16 +1,14 @@
 // Settles the test book on standard input, holding one field at a time, and prints its figures or its refusal.
 #![tactic(auto)]
 
-ghost use Rattle.std.specs.Prelude.{◌≡◌, ◌≤◌, IfOk, length, take};
-ghost use Rattle.numbers.specs.Placing.{at_front};
-ghost use Rattle.feeding.specs.Feeding.{ending_fed};
-ghost use Rattle.feeding.specs.Coming.{FedWhole};
-ghost use Rattle.printing.specs.Printed.{text_of};
+ghost use Rattle.std.specs.Prelude.{IfOk};
+ghost use Rattle.book.specs.Told.{ending_told};
+ghost use Rattle.feeding.specs.Coming.{EndsWhole};
 
-use book::Ending;
 use feeding::Progress;
+use ledger::State;
 use points::CONSUMER_LENGTH;
-use printing::TEXT_ROOM;
+use refusals::Refusal;
 use std::fmt;
 use std::io::Read;
 
@@ -30,48 +28,37 @@ impl fmt::Display for Fault {
     }
 }
 
-// The text of a book that was fed to its end, at the front of the lent bytes, and how long it is.
-fn put_text(progress: Progress, out: &mut [u8; TEXT_ROOM]) -> usize
-    ensures value { result ≡ length (text_of (ending_fed progress)) }
-    ensures out_after { out.new ≡ at_front (text_of (ending_fed progress)) out.old }
-    ensures prefix_len { (result ≤ length out.new) × (result ≡ length (take result out.new)) }
-{
-    let refusal = progress.refusal;
-    let state = progress.state;
-    let ending = Ending { refusal, state };
-    printing::write_text(ending, out)
-}
-
 // Writes the text of a whole book in one go; of what was not fed whole there is none.
-fn report(rt: &impl Print, progress: Progress) -> Result<(), Fault>
-    requires { FedWhole progress }
+fn report(rt: &impl Print, ending: Result<State, Refusal>) -> Result<(), Fault>
+    requires { EndsWhole (ending_told ending) }
 {
-    let mut text = [0u8; TEXT_ROOM];
-    let size = put_text(progress, &mut text);
-    rt.write_all(&text[..size]).map_err(|_| Fault::Unwritten)
+    let text = printing::text_of(ending);
+    rt.write_all(text.as_slice()).map_err(|_| Fault::Unwritten)
 }
 
-// Feeds what the reader gives, until the book has ended.
-fn feed_book<R: Read>(source: &mut R) -> Result<Progress, Fault>
-    ensures { IfOk result (λ progress. FedWhole progress) }
+// Feeds what the reader gives, until the book has ended: how its reading ends.
+fn feed_book<R: Read>(source: &mut R) -> Result<Result<State, Refusal>, Fault>
+    ensures { IfOk result (λ ending. EndsWhole (ending_told ending)) }
 {
     // no more than the value of a consumer is due at a time
     let mut buffer = [0u8; CONSUMER_LENGTH];
-    let mut progress = feeding::start();
+    let mut progress = Progress::start();
     for _ in 0..feeding::most_feedings() {
-        let due = feeding::due(progress.wait);
+        let due = progress.wait.due();
         let count = input::fill(source, &mut buffer[..due]).map_err(|_| Fault::Unread)?;
-        progress = feeding::feed(progress, &buffer[..count]);
-        if feeding::is_over(progress.wait) {
-            return Ok(progress);
+        match progress.feed(&buffer[..count]) {
+            Ok(after) => progress = after,
+            Err(refusal) => return Ok(Err(refusal)),
+        }
+        if progress.wait.is_over() {
+            return Ok(Ok(progress.state));
         }
     }
-    Ok(progress)
+    Ok(Ok(progress.state))
 }
 
 fn settle_book(rt: &impl Print, source: &mut impl Read) -> Result<(), Fault> {
-    let progress = feed_book(source)?;
-    report(rt, progress)
+    report(rt, feed_book(source)?)
 }
 
 fn main(rt: HostRuntime) {

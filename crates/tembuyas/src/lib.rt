@@ -14,7 +14,7 @@ pub extern "C" fn tembuyas_settle_book(book: &[u8], res: &mut [u8]) -> u32
     ensures value { result ≡ settling_refusal book.now (length res.old) }
     ensures res_after { res.new ≡ settling_result book.now res.old }
 {
-    book::settling::settle(book, res)
+    refusals::number_told(book::settling::settle(book, res))
 }
 
 // Writes a head with its calendar.
@@ -33,8 +33,6 @@ pub extern "C" fn tembuyas_write_point(tag: u8, value: &[u8], out: &mut [u8]) ->
     ensures index { result / 2 ^ 32 ≡ (point_writing_answer tag value.now (length out.old)).index }
     ensures lent { out.new ≡ point_writing_out tag value.now out.old }
 {
-    match writing::write_point(tag, value, out) {
-        Ok(()) => 0,
-        Err(refusal) => u64::from(refusal.index()) * INDEX_UNIT + u64::from(refusal.number()),
-    }
+    let answer = writing::write_point(tag, value, out);
+    u64::from(refusals::index_told(answer)) * INDEX_UNIT + u64::from(refusals::number_told(answer))
 }

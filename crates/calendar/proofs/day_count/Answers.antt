@@ -6,25 +6,25 @@ use Rattle.calendar.proofs.day_count.Goals as goal
 
 pub overflow_add-result-3 : goal.overflow_add-result-3
 unfolding day_count
-overflow_add-result-3 c = omega (arith, c.days_before.ensures, count_most _ _ _ c.requires)
+overflow_add-result-3 c = omega (arith, c.days_before.ensures, c.from-years.ensures, count_most _ _ _ c.requires)
 
 pub overflow_add-result-4 : goal.overflow_add-result-4
 unfolding day_count
-overflow_add-result-4 c = omega (arith, c.days_before.ensures, count_most _ _ _ c.requires)
+overflow_add-result-4 c = omega (arith, c.days_before.ensures, c.from-years.ensures, c.from.ensures, count_most _ _ _ c.requires)
 
 pub returns-clause-counted : goal.returns-clause-counted
 unfolding day_count
-returns-clause-counted c = rw c.days_before.ensures
+returns-clause-counted c = rw (c.days_before.ensures, c.from-years.ensures, c.from.ensures)
 
 pub returns-clause-within : goal.returns-clause-within
 unfolding day_count
-returns-clause-within c = rw c.days_before.ensures (count_least _ _ _ c.requires, count_most _ _ _ c.requires)
+returns-clause-within c = rw (c.days_before.ensures, c.from-years.ensures, c.from.ensures) (count_least _ _ _ c.requires, count_most _ _ _ c.requires)
 
-pub overflow_sub-years : goal.overflow_sub-years
-overflow_sub-years c = let p = parts _ _ _ c.requires in omega arith
+pub overflow_sub-year : goal.overflow_sub-year
+overflow_sub-year c = let p = parts _ _ _ c.requires in omega arith
 
 pub invariant_of-month : goal.invariant_of-month
 invariant_of-month c = record { is_month = (parts _ _ _ c.requires).is_month }
 
-pub overflow_sub-result : goal.overflow_sub-result
-overflow_sub-result c = (parts _ _ _ c.requires).first_day_lem
+pub overflow_sub-day : goal.overflow_sub-day
+overflow_sub-day c = (parts _ _ _ c.requires).first_day_lem

@@ -6,4 +6,4 @@ pub returns : goal.returns
 unfolding head_of
 returns c =
     let bytes = c.args.bytes.now in
-    c.head_with.ensures ∙ ap (λ count. head_with count bytes) c.word16_at.ensures
+    c.head_with.ensures ∙ ap (λ count. head_with count bytes) (c.from.ensures ∙ c.word16_at.ensures)

@@ -10,7 +10,8 @@ use Rattle.results.proofs.consumer_result.Goals as goal
 
 pub returns : goal.returns
 returns c =
+    let floor = rw c.from-2.ensures at c.floor_div.ensures in
     to_z-of_z {w = w64} (sfits_of c.floor_div.type_inv)
-    ∙ c.floor_div.ensures
+    ∙ floor
     ∙ ap (λ (z : ℤ). floor_div z (24 * (10_000 - c.args.loss)))
-    (to_z-of_z {w = w64} (sfits_of c.minus-above.type_inv) ∙ c.minus-above.ensures ∙ scaled c.args.base c.args.used)
+    (to_z-of_z {w = w64} (sfits_of c.minus-above.type_inv) ∙ c.minus-above.ensures ∙ rw c.from.ensures (scaled c.args.base c.args.used))

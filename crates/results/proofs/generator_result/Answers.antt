@@ -6,4 +6,4 @@ use borrow.Author.Rules.{sfits_of}
 use Rattle.results.proofs.generator_result.Goals as goal
 
 pub returns : goal.returns
-returns c = to_z-of_z {w = w64} (sfits_of c.minus.type_inv) ∙ c.minus.ensures ∙ sym (floor_one _)
+returns c = to_z-of_z {w = w64} (sfits_of c.minus.type_inv) ∙ rw (c.from.ensures, c.from-2.ensures) at c.minus.ensures ∙ sym (floor_one _)

@@ -16,10 +16,14 @@ counted_most outside inside share h = (share_most (outside + inside) share h).1
 pub returns : goal.returns
 returns c =
     told w64 c.floor_div.type_inv
-    (c.floor_div.ensures ∙ ap (λ (z : ℤ). floor_div z 1_000) (to_z_pos w64 (omega (arith, counted_most c.args.outside c.args.inside c.args.share c.requires))))
+    (c.floor_div.ensures
+    ∙ rw (c.from.ensures, c.from-2.ensures, c.from-3.ensures)
+    (ap (λ (z : ℤ). floor_div z 1_000) (to_z_pos w64 (omega (arith, counted_most c.args.outside c.args.inside c.args.share c.requires)))))
 
 pub overflow_mul-counted : goal.overflow_mul-counted
-overflow_mul-counted c = omega (arith, counted_most c.args.outside c.args.inside c.args.share c.requires)
+overflow_mul-counted c =
+    rw (c.from.ensures, c.from-2.ensures, c.from-3.ensures) (omega (arith, counted_most c.args.outside c.args.inside c.args.share c.requires))
 
-pub overflow_cast-counted-2 : goal.overflow_cast-counted-2
-overflow_cast-counted-2 c = omega (arith, counted_most c.args.outside c.args.inside c.args.share c.requires)
+pub overflow_cast-counted : goal.overflow_cast-counted
+overflow_cast-counted c =
+    rw (c.from.ensures, c.from-2.ensures, c.from-3.ensures) (omega (arith, counted_most c.args.outside c.args.inside c.args.share c.requires))

@@ -1,20 +1,12 @@
 use Rattle.std.proofs.Common.{◌≡◌, ◌+◌, ◌-◌, sym, ap, ◌∙◌, arith}
-use Rattle.refusals.specs.Told.{number_told}
-use Rattle.book.specs.Endings.{refused_with}
-use Rattle.book.proofs.Endings.{not_cut, was_added}
+use Rattle.book.proofs.Endings.{was_added}
 use Rattle.book.proofs.settling.read_points.Goals as goal
-
-pub returns-in_default : goal.returns-in_default
-returns-in_default c =
-    let l = c.loop in
-    c.refused.ensures ∙ ap refused_with (c.number_told.ensures ∙ ap number_told c.in_default.is)
-    ∙ sym (l.invariant ∙ not_cut (c.args.opened.head.count - l.counter) l.state l.left.now (omega arith) _ c.in_default.ensures.answer)
 
 pub loop-preserved : goal.loop-preserved
 loop-preserved c =
     let l = c.loop in
     let e = c.in-Ok.ensures in
-    let added = c.in-Ok-add.ensures.answer in
+    let added = c.in_ok-state.ensures.answer in
     let accepted = sym (ap (λ y. y.refusal) added) in
     let w = was_added (c.args.opened.head.count - l.counter) l.state l.left.now (omega arith) c.in-Ok.point.tag c.in-Ok.point.value.now e.answer e.value accepted in
     let n : c.args.opened.head.count - l.counter - 1 ≡ c.args.opened.head.count - (l.counter + 1) = omega arith in

@@ -1,24 +1,33 @@
--- Each word reads back as it was.
-use Rattle.integers.proofs.Machine.{word_back}
-use borrow.Author.Rules.{rules}
+-- A signed word reads back as it was; a number without a sign is its own word.
+use mathlib.Core.Bool.{Bool, true, false, cond}
+use mathlib.Core.Path.{◌≡◌, refl}
+use Rattle.std.proofs.Common.{rules}
+use Rattle.std.proofs.Math.Facts.{to_z-of_z}
+use mir.Syntax.{w64}
+use mir.Val.{bool_byte}
+use Rattle.numbers.specs.Lists.{gather}
 use Rattle.book.proofs.settling.words_of.Goals as goal
 
+one_or_zero : (bid : Bool) → bool_byte bid ≡ cond bid 1 0
+one_or_zero true = refl
+one_or_zero false = refl
+
 pub returns : goal.returns
+unfolding gather
 returns c =
     let figures = c.args.figures in
-    let one = c.signed-shortfall in
-    let two = c.signed-expected in
-    let three = c.signed-kept in
-    let four = c.signed-surplus in
-    let five = c.signed-points in
-    let six = c.one_or_zero-bid in
-    cc (
-      word_back figures.total (search rules),
-      word_back figures.settled (search rules),
-      word_back one.result one.type_inv,
-      word_back two.result two.type_inv,
-      word_back three.result three.type_inv,
-      word_back four.result four.type_inv,
-      word_back five.result five.type_inv,
-      word_back six.result six.type_inv,
+    simp (
+      c.word_bytes.ensures,
+      c.word_bytes-2.ensures,
+      c.eight_bytes.ensures,
+      c.eight_bytes-2.ensures,
+      c.eight_bytes-3.ensures,
+      c.eight_bytes-4.ensures,
+      c.eight_bytes-5.ensures,
+      c.eight_bytes-6.ensures,
+      c.from.ensures,
+      c.from-2.ensures,
+      one_or_zero figures.bid,
+      to_z-of_z {w = w64} {z = figures.total} (search rules),
+      to_z-of_z {w = w64} {z = figures.settled} (search rules),
     )

@@ -10,4 +10,4 @@ use Rattle.calendar.proofs.Month.common_days_before.Goals as goal
 
 pub returns : goal.returns
 unfolding run sum
-returns c = run_at (λ k. sum (take k month_days)) 12 (c.args.self.number - 1) 0 (search rules)
+returns c = rw c.from.ensures (run_at (λ k. sum (take k month_days)) 12 (c.args.self.number - 1) 0 (search rules))
