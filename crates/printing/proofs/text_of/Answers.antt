@@ -1,5 +1,5 @@
 -- The one line of a refused book, or the lines of a settled one.
-use Rattle.std.proofs.Common.{◌≡◌, ◌∙◌, sym, rules}
+use Rattle.std.proofs.Common.{◌∙◌, sym, rules}
 use Rattle.lines.proofs.Decimals.{decimal_is}
 use Rattle.refusals.proofs.Refused.{refused}
 use Rattle.book.specs.Told.{ending_told}

@@ -1,5 +1,5 @@
 -- No room, a refusal, or the figures.
-use Rattle.std.proofs.Common.{◌≡◌, sym, ap, ◌∙◌, rules}
+use Rattle.std.proofs.Common.{sym, ap, ◌∙◌}
 use Rattle.book.specs.Endings.{closed_after}
 use Rattle.book.specs.Settling.{result_bytes}
 use Rattle.book.proofs.Endings.{no_room, not_settled, all_settled}

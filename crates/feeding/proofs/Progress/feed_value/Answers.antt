@@ -1,7 +1,7 @@
 -- A value that is cut, or what a whole one gives.
 use mathlib.Core.List.{List}
 use mathlib.Core.Path.{◌≡◌, sym, ap, ◌∙◌}
-use Prim.Native.Nat.{ℕ, ◌-◌, ◌≤◌}
+use Prim.Native.Nat.{ℕ, ◌≤◌}
 use lib.ListN.{length, take}
 use Rattle.fields.specs.Fields.{length_due}
 use Rattle.fields.specs.declared.Due.{Due}
