@@ -9,53 +9,11 @@
 #include <stdlib.h>
 #include <string.h>
 
+#include "book_file.h"
 #include "tembuyas.h"
 #include "words.h"
 
 enum { SETTLED = 0, REFUSED = 1, NOT_READ = 2, NOT_WRITTEN = 3 };
-
-struct bytes {
-    uint8_t *first;
-    size_t length;
-};
-
-/* All that is left of a file, or NULL and errno. */
-static struct bytes rest_of(FILE *file)
-{
-    struct bytes book = { NULL, 0 };
-    size_t room = 0;
-    for (;;) {
-        if (book.length == room) {
-            room = room ? 2 * room : 1 << 16;
-            uint8_t *more = realloc(book.first, room);
-            if (!more)
-                break;
-            book.first = more;
-        }
-        size_t count = fread(book.first + book.length, 1, room - book.length, file);
-        if (ferror(file))
-            break;
-        if (count == 0)
-            return book;
-        book.length += count;
-    }
-    int error = errno;
-    free(book.first);
-    errno = error;
-    return (struct bytes){ NULL, 0 };
-}
-
-static struct bytes read_book(const char *name)
-{
-    FILE *file = fopen(name, "rb");
-    if (!file)
-        return (struct bytes){ NULL, 0 };
-    struct bytes book = rest_of(file);
-    int error = errno;
-    fclose(file);
-    errno = error;
-    return book;
-}
 
 static void show_figure(const char *name, const uint8_t *result, enum tembuyas_word word, const char *unit)
 {
@@ -86,7 +44,7 @@ int main(int argc, char **argv)
         fprintf(stderr, "usage: settlement_screen FILE\n");
         return NOT_READ;
     }
-    struct bytes book = read_book(argv[1]);
+    struct book_file book = read_book(argv[1]);
     if (!book.first) {
         fprintf(stderr, "settlement_screen: %s: %s\n", argv[1], strerror(errno));
         return NOT_READ;

@@ -109,7 +109,8 @@ extern "C" {
 
 /* ---- The result of a settled book -----------------------------------------------------------------------------------
  *
- * Eight words of eight bytes, with a sign (two's complement), high byte first: word w stands at 8 * w. */
+ * Eight words of eight bytes, with a sign (two's complement), high byte first: word w stands at 8 * w. The 64 bytes are
+ * also a record of the half-year report: the program report reads up to 500 of them, one behind the other. */
 #define TEMBUYAS_RESULT_BYTES 64
 #define TEMBUYAS_RESULT_WORDS 8
 enum tembuyas_word {

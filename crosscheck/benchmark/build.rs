@@ -46,7 +46,7 @@ fn rust_flags() -> String {
 }
 
 fn main() {
-    archive::link();
+    archive::link_to("benchmark");
     compile_plain_pass();
     println!(
         "cargo:rustc-env=PLAIN_PASS_FLAGS={}",

@@ -2,5 +2,5 @@
 mod archive;
 
 fn main() {
-    archive::link();
+    archive::link_to("differential");
 }

@@ -1,8 +1,8 @@
 //! A separate settlement of the effectiveness test ledger.
 //!
-//! Written from document 01 and change requests 1 to 3 alone, so that it can
-//! disagree with the product. Each module is one section of document 01; "rule
-//! N" means refusal N.
+//! Written from document 01 and change requests 1 to 4 alone, so that it can
+//! disagree with the product. Each module is one section of document 01, or
+//! one change request; "rule N" means refusal N.
 
 #![forbid(unsafe_code)]
 #![warn(missing_docs)]
@@ -17,7 +17,9 @@ pub mod demand3;
 pub mod ledger;
 pub mod limits;
 pub mod point;
+pub mod records;
 pub mod refusals;
+pub mod report;
 pub mod slots;
 pub mod terms;
 pub mod text;

@@ -1,4 +1,4 @@
-//! The fixed numbers of document 01 and change request 1, each named once.
+//! The fixed numbers of document 01 and change requests 1 and 4, each named once.
 
 /// First and last year of the dates ("Days").
 pub const FIRST_YEAR: u16 = 2020;
@@ -91,8 +91,15 @@ pub const MIXED_FIRING_READINGS: usize = 2 * WINDOW_SLOTS;
 pub const MIXED_FIRING_LENGTH: usize = 72;
 /// Bytes of a written head with its calendar.
 pub const WRITTEN_HEAD_LENGTH: usize = 53;
-/// Bytes of the result of a whole book.
+/// Bytes of the result of a whole book, and of a record of the report.
 pub const RESULT_LENGTH: usize = 64;
+/// Bytes of a word of a result.
+pub const WORD_LENGTH: usize = 8;
+
+/// Most records of a report (rule 53).
+pub const MOST_RECORDS: usize = 500;
+/// The total of a record lies within this times its points (rule 54), in Wh.
+pub const TOTAL_OF_A_POINT: i128 = 24_000_000_000;
 
 /// "Twenty-two nines stand for a number not yet issued".
 pub const NOT_YET_ISSUED: [u8; NUMBER_LENGTH] = [b'9'; NUMBER_LENGTH];

@@ -67,6 +67,11 @@ pub const HEAD_OR_CALENDAR_TAG: Refusal = 41;
 /// Whole book: bytes after the last point.
 pub const BYTES_AFTER_LAST_POINT: Refusal = 42;
 
+/// Report: length no multiple of 64, or above 500 records.
+pub const RECORDS: Refusal = 53;
+/// Report: a record that breaks a closing rule.
+pub const RECORD: Refusal = 54;
+
 /// The index in every answer that concerns no reading.
 pub const NO_INDEX: u32 = 0;
 

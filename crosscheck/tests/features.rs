@@ -1,6 +1,9 @@
 //! What the first 20,000 seeded books hold, by the settlement's own looking:
 //! every feature named here must occur.
 
+mod common;
+
+use common::seen::Seen;
 use settlement::book::PointValue;
 use settlement::books::damages::{field_begins, FIRST_OF_POINT};
 use settlement::books::lending::{lent_bytes, to_write};
@@ -14,47 +17,9 @@ use settlement::refusals::{Told, READING, READING_OF_A_DAY_BACK};
 use settlement::slots::{window_sums, SlotResults};
 use settlement::terms::{contract_is_allowed, Terms};
 use settlement::writing::write_point;
-use std::collections::{BTreeMap, BTreeSet};
+use std::collections::BTreeSet;
 
 const BOOKS: u64 = 20_000;
-
-/// How often each feature occurred.
-#[derive(Default)]
-struct Seen(BTreeMap<String, u32>);
-
-impl Seen {
-    fn note(&mut self, feature: &str, occurs: bool) {
-        *self.0.entry(feature.to_string()).or_default() += u32::from(occurs);
-    }
-
-    /// Which of the values that matter a field has.
-    fn note_value<T: PartialEq + ToString>(&mut self, field: &str, value: T, matter: &[T]) {
-        for matters in matter {
-            let feature = format!("{field} {}", matters.to_string());
-            self.note(&feature, value == *matters);
-        }
-    }
-
-    /// Every two faults at once; a date cannot be both 2 and 3.
-    fn note_faults(&mut self, faults: &[(u32, bool)]) {
-        for (place, (one, first)) in faults.iter().enumerate() {
-            for (other, second) in &faults[place + 1..] {
-                if (*one, *other) != (2, 3) {
-                    self.note(&format!("faults {one} and {other}"), *first && *second);
-                }
-            }
-        }
-        let several = faults.iter().filter(|fault| fault.1).count() > 2;
-        self.note("three faults or more at once", several);
-    }
-
-    /// Fails where one of so many features never occurred.
-    fn all_occur(&self, features: usize) {
-        let never: Vec<_> = self.0.iter().filter(|(_, times)| **times == 0).collect();
-        assert!(never.is_empty(), "never seen: {never:?}");
-        assert_eq!(self.0.len(), features, "{:?}", self.0);
-    }
-}
 
 /// The fields of an undamaged book: head, calendar, then tag and value of each
 /// point.

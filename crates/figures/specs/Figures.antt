@@ -1,5 +1,5 @@
 -- The closing figures (document 01, 'Closing figures').
-use Rattle.std.specs.Prelude.{false, List, ℕ, ◌-◌, min, leb, ℤ, pos, ◌-ℤ◌}
+use Rattle.std.specs.Prelude.{Bool, false, List, ℕ, ◌-◌, min, leb, ℤ, pos, ◌-ℤ◌}
 use Rattle.integers.specs.Integers.{floor_div, or_zero, sum_ℤ}
 use Rattle.heads.specs.Limits.{least_bid}
 use Rattle.figures.specs.declared.Figures.{Figures}
@@ -20,6 +20,10 @@ expected_of settled = or_zero settled
 abbrev pub kept_of : ℕ → ℤ → ℕ
 kept_of contract settled = min (expected_of settled) contract
 
+-- 'bid: yes exactly when expected is 1,000 or more'
+abbrev pub is_bid : ℕ → Bool
+is_bid expected = leb least_bid expected
+
 -- all of them, from the contract, the slot totals and the points taken
 unfoldable pub figures_of : ℕ → List ℤ → ℕ → Figures
 figures_of contract totals points =
@@ -32,7 +36,7 @@ figures_of contract totals points =
       kept = kept_of contract settled;
       surplus = expected_of settled - kept_of contract settled;
       points = points;
-      bid = leb least_bid (expected_of settled);
+      bid = is_bid (expected_of settled);
     }
 
 -- 'refused figures are zeros'

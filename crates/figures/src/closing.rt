@@ -1,9 +1,8 @@
 // The closing figures.
-ghost use Rattle.std.specs.Prelude.{◌≡◌, pos, nat_abs, leb, get_or};
+ghost use Rattle.std.specs.Prelude.{◌≡◌, pos, nat_abs, get_or};
 ghost use Prim.Native.Nat.{ℕ, ◌≤◌, ◌<◌};
 ghost use Rattle.integers.specs.Integers.{most_summand};
-ghost use Rattle.heads.specs.Limits.{least_bid};
-ghost use Rattle.figures.specs.Figures.{shortfall_of, figures_of, no_figures};
+ghost use Rattle.figures.specs.Figures.{settled_of, shortfall_of, is_bid, figures_of, no_figures};
 
 use crate::Figures;
 use numbers::WINDOW_SLOTS;
@@ -13,6 +12,20 @@ const WATT_HOURS: u32 = 3000;
 
 // kW of an expected capacity that may be bid.
 const LEAST_BID: u64 = 1000;
+
+// The total in kW, rounded toward minus infinity.
+pub fn settled_of(total: i64) -> i64
+    ensures { result ≡ settled_of total }
+{
+    integers::floor_div(total, WATT_HOURS)
+}
+
+// Whether an expected capacity may be bid.
+pub fn is_bid(expected: u64) -> bool
+    ensures { result ≡ is_bid expected }
+{
+    LEAST_BID <= expected
+}
 
 // Contract less settled, or 0 where that is negative.
 fn shortfall_of(contract: u32, settled: i64) -> u64
@@ -29,7 +42,7 @@ pub fn figures_of(contract: u32, totals: [i64; WINDOW_SLOTS], points: u32) -> Fi
     ensures { result ≡ figures_of contract totals points }
 {
     let total = integers::total_of(totals);
-    let settled = integers::floor_div(total, WATT_HOURS);
+    let settled = settled_of(total);
     let shortfall = shortfall_of(contract, settled);
     let expected = integers::or_zero(settled);
     let kept = expected.min(u64::from(contract));
@@ -41,7 +54,7 @@ pub fn figures_of(contract: u32, totals: [i64; WINDOW_SLOTS], points: u32) -> Fi
         kept,
         surplus: expected - kept,
         points,
-        bid: LEAST_BID <= expected,
+        bid: is_bid(expected),
     }
 }
 

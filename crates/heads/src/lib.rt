@@ -26,6 +26,9 @@ const LEAST_POINTS: u32 = 1;
 
 pub const MOST_POINTS: u32 = 10000;
 
+// The size that one slot result may have.
+pub const MOST_RESULT: u64 = 4000000000;
+
 // Tags and lengths of the values of a head and a calendar (specs/Heads). A tag is written once and matched once: an enum beside `Due`
 // would say it again.
 pub const HEAD_TAG: u8 = 1;

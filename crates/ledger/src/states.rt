@@ -10,9 +10,6 @@ use heads::Head;
 use numbers::{DAYS_BACK, NUMBER_LENGTH, WINDOW_SLOTS};
 use refusals::Refusal;
 
-// The size that one slot result may have.
-const MOST_RESULT: u64 = 4000000000;
-
 // The state that an accepted opening gives, with head and marks as its definition has them.
 pub fn opened_state(head: Head, marks: [u8; DAYS_BACK]) -> State
     ensures { result ≡ opened head marks }
@@ -47,7 +44,10 @@ pub fn is_unsound(state: State) -> bool
 {
     heads::content_refusal(state.head, state.marks).is_err()
         || state.head.count < state.points
-        || figures::totals::has_beyond(slot_totals(state), MOST_RESULT * u64::from(state.points))
+        || figures::totals::has_beyond(
+            slot_totals(state),
+            heads::MOST_RESULT * u64::from(state.points),
+        )
         || 0 < state.points && !numbers::is_number(&state.last)
 }
 

@@ -6,6 +6,7 @@ use Rattle.refusals.specs.declared.Refusal.TheVariants.{Lengths, NoSuchDate, Wee
 use Rattle.refusals.specs.declared.Refusal.TheVariants.{UnsoundState, CountReached, PointTag, PointLength, NotSixPlaces, PointNumber}
 use Rattle.refusals.specs.declared.Refusal.TheVariants.{NumberNotAbove, ClassOrBaseline, Share, ReadingOfTestDay, ReadingOfDaysBack}
 use Rattle.refusals.specs.declared.Refusal.TheVariants.{TooFewDays, CountNotReached, BookCut, LentBytes, WrongTag, BytesAfter}
+use Rattle.refusals.specs.declared.Refusal.TheVariants.{RecordsLength, RecordRule}
 
 -- the number of a refusal
 abbrev pub number_of : Refusal → ℕ
@@ -34,12 +35,19 @@ number_of BookCut = 31
 number_of LentBytes = 40
 number_of WrongTag = 41
 number_of BytesAfter = 42
+number_of RecordsLength = 53
+number_of (RecordRule place) = 54
 
 -- CR 3: the index that is told with it, which is 0 in every other answer
 abbrev pub index_of : Refusal → ℕ
 index_of (ReadingOfTestDay index) = index
 index_of (ReadingOfDaysBack index) = index
 index_of refusal = 0
+
+-- CR 4: the place of the record, which is told with 54
+abbrev pub place_of : Refusal → ℕ
+place_of (RecordRule place) = place
+place_of refusal = 0
 
 -- the number that an answer tells: 0 is accepted
 abbrev pub number_told : {A : Type 0} → Result A Refusal → ℕ

@@ -3,7 +3,7 @@
 
 ghost use Rattle.std.specs.Prelude.{◌≡◌};
 ghost use Rattle.std.specs.Range.{range_inclusive_contains};
-ghost use Rattle.refusals.specs.Told.{number_of, index_of, number_told, index_told, unless};
+ghost use Rattle.refusals.specs.Told.{number_of, index_of, place_of, number_told, index_told, unless};
 
 use std::error::Error;
 use std::fmt;
@@ -44,6 +44,9 @@ pub enum Refusal {
     LentBytes,
     WrongTag,
     BytesAfter,
+    // CR 4: the records of a report are too many, or end within one; one breaks a rule of closing, with its place.
+    RecordsLength,
+    RecordRule(u32),
 }
 
 impl Refusal {
@@ -77,6 +80,8 @@ impl Refusal {
             Refusal::LentBytes => 40,
             Refusal::WrongTag => 41,
             Refusal::BytesAfter => 42,
+            Refusal::RecordsLength => 53,
+            Refusal::RecordRule(_) => 54,
         }
     }
 
@@ -86,6 +91,16 @@ impl Refusal {
     {
         match self {
             Refusal::ReadingOfTestDay(index) | Refusal::ReadingOfDaysBack(index) => index,
+            _ => 0,
+        }
+    }
+
+    // The place of the record that it is about; 0 where it is about none.
+    pub fn place(self) -> u32
+        ensures { result ≡ place_of self }
+    {
+        match self {
+            Refusal::RecordRule(place) => place,
             _ => 0,
         }
     }

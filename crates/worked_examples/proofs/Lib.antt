@@ -3,4 +3,5 @@ pub mod ExampleM
 pub mod Sequences
 pub mod TellingDays
 pub mod TellingReadings
+pub mod Reports
 pub mod WrongPrograms

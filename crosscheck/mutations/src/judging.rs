@@ -1,7 +1,8 @@
 //! Holds a wrong settlement against the separate settlement, case by case.
 //!
 //! Every case is made and answered by the unchanged settlement; the wrong one
-//! only answers it. Cases are books, single calls and sequences of calls.
+//! only answers it. Cases are books, single calls, sequences of calls and inputs
+//! of the report.
 
 #![forbid(unsafe_code)]
 #![warn(missing_docs)]
@@ -17,6 +18,7 @@ use settlement::books::lending::{lent_bytes, result_length, to_write};
 use settlement::books::{seeded_book, SeededBook};
 use settlement::calls::vectors::stored_calls;
 use settlement::limits::RESULT_LENGTH;
+use settlement::records::seeded_input;
 use std::io::{self, Write};
 use std::panic::{self, AssertUnwindSafe};
 use std::process::ExitCode;
@@ -37,6 +39,8 @@ pub trait Answers {
     fn demand3(&self, given: &Sequence, altered: &Alteration) -> String;
     /// What the exact account answers to a sequence.
     fn account(&self, given: &Sequence) -> String;
+    /// What the program report prints for an input.
+    fn report(&self, input: &[u8]) -> String;
 }
 
 /// The answers of a crate with the modules of the separate settlement.
@@ -97,6 +101,10 @@ macro_rules! answers_of {
                     };
                 }
                 answers
+            }
+
+            fn report(&self, input: &[u8]) -> String {
+                $settlement::report::report_text(input)
             }
         }
 
@@ -256,12 +264,13 @@ fn compare_book(wrong: &dyn Answers, book: &[u8], number: u64) -> Result<(), Str
         let given = |by| call(by, book, number);
         compare(given(&Unchanged), || given(wrong), Given::what_differs)?;
     }
-    let text = |by: &dyn Answers| by.text(book);
-    compare(
-        text(&Unchanged),
-        || text(wrong),
-        |due, found| line_that_differs(due, found),
-    )
+    compare_text(|by| by.text(book), wrong)
+}
+
+/// What differs between two printed texts, if they differ.
+fn compare_text(text: impl Fn(&dyn Answers) -> String, wrong: &dyn Answers) -> Result<(), String> {
+    let what = |due: &String, found: &String| line_that_differs(due, found);
+    compare(text(&Unchanged), || text(wrong), what)
 }
 
 /// The kind of a book and its damage.
@@ -292,19 +301,45 @@ fn told_by_call(wrong: &dyn Answers) -> Option<String> {
     })
 }
 
-/// What a wrong settlement's program does: prints the first case that tells it
-/// apart, books before calls before sequences, or nothing. The program's
-/// argument is the number of books.
-pub fn judge(wrong: &dyn Answers) -> ExitCode {
-    let books = std::env::args().nth(1).and_then(|books| books.parse().ok());
-    let Some(books) = books else {
-        eprintln!("a number of books is due");
-        return ExitCode::from(2);
-    };
-    panic::set_hook(Box::new(|_| {})); // a panic is an answer here
-    let told = told_by_book(wrong, books)
+/// So many inputs of the report are tried, from 0 on.
+const INPUTS: u64 = 3_000;
+
+/// The first input of the report that tells a wrong settlement apart.
+fn told_by_input(wrong: &dyn Answers) -> Option<String> {
+    (0..INPUTS).find_map(|number| {
+        let seeded = seeded_input(number);
+        let differs = compare_text(|by| by.report(&seeded.input), wrong).err()?;
+        Some(format!("input {number} ({}) | {differs}", seeded.kind))
+    })
+}
+
+/// The first case that tells a wrong settlement apart: books before calls before
+/// sequences before inputs of the report.
+fn told_by_any(wrong: &dyn Answers, books: u64) -> Option<String> {
+    told_by_book(wrong, books)
         .or_else(|| told_by_call(wrong))
-        .or_else(|| told_by_sequence(wrong));
+        .or_else(|| told_by_sequence(wrong))
+        .or_else(|| told_by_input(wrong))
+}
+
+/// The argument of a program that answers the inputs of the report alone.
+pub const REPORT_ALONE: &str = "report";
+
+/// What a wrong settlement's program does: prints the first case that tells it
+/// apart, or nothing. The program's argument is the number of books, or that the
+/// inputs of the report alone are tried.
+pub fn judge(wrong: &dyn Answers) -> ExitCode {
+    let asked = std::env::args().nth(1).unwrap_or_default();
+    panic::set_hook(Box::new(|_| {})); // a panic is an answer here
+    let told = if asked == REPORT_ALONE {
+        told_by_input(wrong)
+    } else {
+        let Ok(books) = asked.parse() else {
+            eprintln!("a number of books is due, or the word {REPORT_ALONE}");
+            return ExitCode::from(2);
+        };
+        told_by_any(wrong, books)
+    };
     match io::stdout().write_all(told.unwrap_or_default().as_bytes()) {
         Ok(()) => ExitCode::SUCCESS,
         Err(error) => {

@@ -4,11 +4,12 @@
 //!     mutations [BOOKS [NAME ..]]
 //!
 //! Tries the seeded books from 0 on, BOOKS of them (default 20,000), then the
-//! stored calls, then seeded sequences of calls; with names, only those wrong
-//! settlements. Prints one row for each: its name, the rule it breaks, the
-//! case, both answers. The last line has the counts. The exit status is 1 where
-//! one is told apart by no case, or cannot be tried, or where the settlement
-//! without an edit is told apart.
+//! stored calls, then seeded sequences of calls, then seeded inputs of the report,
+//! and of a wrong report these alone; with names, only those wrong settlements.
+//! Prints one row for each: its name, the rule it breaks, the case, both answers.
+//! The last line has the counts. The exit status is 1 where one is told apart by
+//! no case, or cannot be tried, or where the settlement without an edit is told
+//! apart.
 
 mod edits;
 mod mutants;
@@ -27,6 +28,7 @@ struct Counts {
     by_book: u32,
     by_call: u32,
     by_sequence: u32,
+    by_input: u32,
     by_none: u32,
     not_tried: u32,
 }
@@ -37,7 +39,8 @@ impl Counts {
         match case.split(' ').next() {
             Some("book") => &mut self.by_book,
             Some("call") => &mut self.by_call,
-            _ => &mut self.by_sequence,
+            Some("sequence") => &mut self.by_sequence,
+            _ => &mut self.by_input,
         }
     }
 
@@ -122,9 +125,10 @@ fn run(arguments: &[String]) -> Result<bool, String> {
     println!("| Wrong settlement | Rule | Case | Answers |\n|---|---|---|---|");
     let counts = judge_all(&shared, &edits, books);
     println!(
-        "{} wrong settlements, of at most {books} books, the stored calls and the seeded sequences: \
-         {} told apart by a book, {} by a call, {} by a sequence, {} by none, {} not tried; the unchanged one by none",
-        edits.len(), counts.by_book, counts.by_call, counts.by_sequence, counts.by_none, counts.not_tried
+        "{} wrong settlements, of at most {books} books, the stored calls, the seeded sequences and the seeded inputs: \
+         {} told apart by a book, {} by a call, {} by a sequence, {} by an input, {} by none, {} not tried; \
+         the unchanged one by none",
+        edits.len(), counts.by_book, counts.by_call, counts.by_sequence, counts.by_input, counts.by_none, counts.not_tried
     );
     Ok(counts.by_none + counts.not_tried == 0)
 }

@@ -2,6 +2,7 @@
 //! they share, the unchanged settlement and the judging, is built once.
 
 use crate::edits::Edit;
+use judging::REPORT_ALONE;
 use std::fs;
 use std::io::Read;
 use std::path::{Path, PathBuf};
@@ -14,7 +15,14 @@ const TIME_LIMIT: Duration = Duration::from_secs(300);
 
 /// Modules that a wrong settlement is built without: the generators, since its
 /// cases come from the unchanged ones.
-const LEFT_OUT: [&str; 2] = ["pub mod books;\n", "pub mod vectors;\n"];
+const LEFT_OUT: [&str; 3] = [
+    "pub mod books;\n",
+    "pub mod records;\n",
+    "pub mod vectors;\n",
+];
+
+/// The source of the report, whose functions no other answer uses.
+const REPORT: &str = "src/report.rs";
 
 /// The folder of this package.
 const PACKAGE: &str = env!("CARGO_MANIFEST_DIR");
@@ -94,10 +102,19 @@ impl Shared {
         self.compile(&folder, &wrong)?;
         self.compile(&folder, &judged)?;
         let child = Command::new(folder.join("judged"))
-            .arg(books.to_string())
+            .arg(tried(edit, books))
             .stdout(Stdio::piped())
             .spawn();
         printed_in_time(child.map_err(|error| error.to_string())?)
+    }
+}
+
+/// What is tried of a settlement with an edit: a wrong report answers the inputs
+/// of the report alone.
+fn tried(edit: Option<&Edit>, books: u64) -> String {
+    match edit {
+        Some(edit) if edit.file == REPORT => REPORT_ALONE.to_string(),
+        _ => books.to_string(),
     }
 }
 

@@ -1,6 +1,9 @@
 //! What several tests use: shorter calls, and slow settlements by other ways.
 #![allow(dead_code)] // each test file uses a part
 
+pub mod records;
+pub mod seen;
+
 use settlement::books::fields::*;
 use settlement::ledger::{add, open, State};
 use settlement::limits::*;

@@ -9,10 +9,7 @@
 //! is then 1.
 
 use std::fs::File;
-use std::io::Write;
-use std::process::{Child, Command, Output, Stdio};
-use std::thread;
-use std::time::Duration;
+use std::process::{Child, Command, Stdio};
 
 use settlement::books::examples::{consumer_of_example_h, consumers, example_m, mixed_firing};
 use settlement::books::fields::{GeneratorFields, Head, List, MixedFiringFields, PointFields};
@@ -20,22 +17,10 @@ use settlement::books::seeded_book;
 use settlement::limits::{HIGHEST_COUNT, WRITTEN_HEAD_LENGTH};
 use settlement::text::settle_book_text;
 
-/// Feeds a book in pieces of at most so many bytes, with a pause behind each. A book that is refused
-/// early may not be read to its end.
-fn feed(mut child: Child, book: &[u8], piece: usize, pause: Duration) -> Output {
-    let mut input = child.stdin.take().expect("a pipe");
-    thread::scope(|scope| {
-        scope.spawn(move || {
-            for bytes in book.chunks(piece) {
-                if input.write_all(bytes).is_err() {
-                    return;
-                }
-                thread::sleep(pause);
-            }
-        });
-        child.wait_with_output().expect("the program ends")
-    })
-}
+#[path = "../trial.rs"]
+mod trial;
+
+use trial::{asked, fed, Asked, Trial};
 
 /// A book of so many points.
 fn long_book(points: u32, point: fn(u32) -> PointFields) -> Vec<u8> {
@@ -71,52 +56,7 @@ fn mixed(number: u32) -> PointFields {
     }
 }
 
-/// The program, and how many of its runs differed.
-struct Trial {
-    program: String,
-    runs: u64,
-    differing: u64,
-}
-
 impl Trial {
-    /// Counts a run and tells where it differs.
-    fn count(&mut self, name: &str, differences: &[(bool, &str)]) {
-        self.runs += 1;
-        if differences.iter().any(|(differs, _)| *differs) {
-            self.differing += 1;
-        }
-        for (_, what) in differences.iter().filter(|(differs, _)| *differs) {
-            eprintln!("{name}: {what}");
-        }
-    }
-
-    /// Starts a command whose standard error comes through a pipe.
-    fn start(command: &mut Command, input: impl Into<Stdio>, output: impl Into<Stdio>) -> Child {
-        let piped = command.stdin(input).stdout(output).stderr(Stdio::piped());
-        piped.spawn().expect("the program starts")
-    }
-
-    /// The program prints a text for a book that comes in pieces, with pauses of so many ms.
-    fn prints_in_pieces(&mut self, name: &str, book: &[u8], text: &str, piece: usize, pause: u64) {
-        let command = &mut Command::new(&self.program);
-        let child = Self::start(command, Stdio::piped(), Stdio::piped());
-        let output = feed(child, book, piece, Duration::from_millis(pause));
-        let differences = [
-            (
-                output.status.code() != Some(0),
-                "another exit status than 0",
-            ),
-            (output.stdout != text.as_bytes(), "other text"),
-            (!output.stderr.is_empty(), "something on standard error"),
-        ];
-        self.count(name, &differences);
-    }
-
-    /// The program prints a text for a book, and nothing else.
-    fn prints(&mut self, name: &str, book: &[u8], text: &str) {
-        self.prints_in_pieces(name, book, text, usize::MAX, 0);
-    }
-
     /// The program prints for a book what the separate settlement says.
     fn agrees(&mut self, name: &str, book: &[u8]) {
         self.prints(name, book, &settle_book_text(book));
@@ -141,13 +81,6 @@ impl Trial {
             (output.stderr.is_empty(), "nothing on standard error"),
         ];
         self.count(name, &differences);
-    }
-
-    /// The program started by a shell that closes its input or output first.
-    fn closed(&self, closing: &str, input: impl Into<Stdio>) -> Child {
-        let command = &mut Command::new("sh");
-        command.args(["-c", &format!("exec \"$0\" {closing}"), &self.program]);
-        Self::start(command, input, Stdio::piped())
     }
 
     fn long_books(&mut self) {
@@ -198,35 +131,17 @@ impl Trial {
     }
 }
 
-/// A child whose input is a short book.
-fn fed(mut child: Child, book: &[u8]) -> Child {
-    let mut input = child.stdin.take().expect("a pipe");
-    input
-        .write_all(book)
-        .expect("room for a short book in the pipe");
-    child
-}
-
 fn main() {
-    let mut arguments = std::env::args().skip(1);
-    let program = arguments.next().expect("the program's path");
-    let mut numbers = arguments.map(|a| a.parse::<u64>().expect("a whole number"));
-    let count = numbers.next().unwrap_or(1_000);
-    let first = numbers.next().unwrap_or(0);
-    let mut trial = Trial {
-        program,
-        runs: 0,
-        differing: 0,
-    };
+    let Asked {
+        mut trial,
+        count,
+        first,
+    } = asked(1_000);
     for number in first..first + count {
         trial.agrees(&format!("book {number}"), &seeded_book(number).book);
     }
     trial.long_books();
     trial.short_reads();
     trial.failing_calls();
-    let (others, differing) = (trial.runs - count, trial.differing);
-    println!("{count} books from {first} on through a pipe and {others} other runs of the program, {differing} differ");
-    if differing > 0 {
-        std::process::exit(1);
-    }
+    trial.end(count, &format!("books from {first} on"));
 }

@@ -1,0 +1,5 @@
+pub mod Closings
+pub mod Shown
+pub mod Results
+pub mod Books
+pub mod Reports
