@@ -21,7 +21,7 @@ const char *refusal_in_words(uint32_t refusal)
     case TEMBUYAS_POINT_NUMBER: return "a point number is not 22 digits, or not issued yet";
     case TEMBUYAS_NUMBER_NOT_ABOVE: return "point numbers do not rise";
     case TEMBUYAS_CLASS_OR_BASELINE: return "a voltage class or a generator's baseline is not allowed";
-    case TEMBUYAS_TOO_FEW_DAYS: return "a consumer has fewer than four days for its baseline";
+    case TEMBUYAS_TOO_FEW_DAYS: return "a consumer is in the list, and fewer than four of the thirty days are eligible";
     case TEMBUYAS_COUNT_NOT_REACHED: return "the book has fewer points than its head says";
     case TEMBUYAS_BOOK_CUT: return "the book ends within a field or before its calendar";
     case TEMBUYAS_LENT_BYTES: return "not 64 bytes for the result, or too few to write to";

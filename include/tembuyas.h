@@ -145,7 +145,7 @@ enum tembuyas_refusal {
     TEMBUYAS_POINT_NUMBER = 14,      /* number not 22 digits, or all nines */
     TEMBUYAS_NUMBER_NOT_ABOVE = 15,  /* number not above that of the point before */
     TEMBUYAS_CLASS_OR_BASELINE = 16, /* class not 1 to 3, or baseline above 1,000,000 kW */
-    TEMBUYAS_TOO_FEW_DAYS = 18,      /* a consumer with fewer than four days for its baseline */
+    TEMBUYAS_TOO_FEW_DAYS = 18,      /* a consumer, and fewer than four of the thirty days are eligible */
     /* books and lent bytes */
     TEMBUYAS_COUNT_NOT_REACHED = 20, /* the book ends where a further point is due */
     TEMBUYAS_BOOK_CUT = 31,          /* the book is empty or ends within a field, or before its calendar */

@@ -134,7 +134,7 @@ pub fn take_point<'a>(
     Ok((taken, number))
 }
 
-/// The four days of a consumer; rule 18: fewer than four days.
+/// The four days of a consumer; rule 18: fewer than four eligible days.
 fn days_of_consumer(terms: &Terms, consumer: &Consumer) -> Result<ChosenDays, Refusal> {
     let sums = window_sums(consumer, terms.head.first_slot);
     choose_days(&terms.eligible_days(), &sums).ok_or(TOO_FEW_DAYS)

@@ -52,7 +52,7 @@ pub const READING: Refusal = 51;
 /// Adding: the first reading above 1,000,000,000 is one of a consumer's days
 /// back; at the place of 17.
 pub const READING_OF_A_DAY_BACK: Refusal = 52;
-/// Adding: fewer than four days.
+/// Adding: fewer than four eligible days.
 pub const TOO_FEW_DAYS: Refusal = 18;
 
 /// Closing: count not reached. Whole book: no byte left where a point is due.

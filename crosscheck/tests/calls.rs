@@ -10,7 +10,7 @@ use settlement::books::fields::{
 };
 use settlement::calls::vectors::stored_calls;
 use settlement::calls::{read_calls, Call, MOST_BYTES, MOST_PLACES, STATE_LENGTH};
-use settlement::choosing::standing_days;
+use settlement::choosing::walk;
 use settlement::ledger::{add, open, State};
 use settlement::limits::*;
 use settlement::point::Point;
@@ -257,7 +257,7 @@ impl Shown {
         }
         let sums = window_sums(&consumer, state.terms.head.first_slot);
         let eligible = state.terms.eligible_days();
-        let standing = standing_days(&eligible, &sums);
+        let standing = walk(&eligible, &sums).standing;
         *self.standing.entry(standing.len()).or_default() += 1;
         let of_days = |days: &[u8]| -> Vec<u64> {
             let of_day = |&back: &u8| sums[usize::from(back) - 1];

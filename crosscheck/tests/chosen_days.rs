@@ -23,9 +23,6 @@ struct Adding {
     days: [u8; 4],
 }
 
-/// A day back with its window sum.
-type Day = (u8, u64);
-
 /// The days of an adding's line: four numbers between `last` and `places`.
 fn days_of_line(line: &str) -> [u8; 4] {
     let (before, behind) = line.split_once(" days ").expect("the word days");
@@ -183,6 +180,39 @@ impl Shown {
         self.note(format!("first point {first}"));
     }
 
+    /// The days that return to an accepted consumer.
+    fn returned(&mut self, adding: &Adding, eligible: &[Day], standing: &[Day]) {
+        let told = |day: &Day| adding.days.contains(&day.0);
+        let dropped = eligible.iter().filter(|day| !standing.contains(day));
+        let (returned, away): (Vec<Day>, Vec<Day>) = dropped.copied().partition(told);
+        if standing.len() >= 4 {
+            return assert!(returned.is_empty());
+        }
+        self.note(format!("{} return", returned.len()));
+        let first_five = |day: &Day| eligible[..5].contains(day);
+        let places: Vec<usize> = (0..eligible.len())
+            .filter(|&place| returned.contains(&eligible[place]))
+            .collect();
+        if eligible.len() == 5 {
+            self.note(format!("of five return {places:?}"));
+        }
+        let near = returned.iter().filter(|day| first_five(day)).count();
+        let behind = returned.len() - near;
+        self.note(format!(
+            "return of the five {}, behind {}",
+            near > 0,
+            behind > 0
+        ));
+        let any_away = |test: &dyn Fn(&Day) -> bool| away.iter().any(test);
+        let equal = |day: &Day| returned.iter().any(|other| other.1 == day.1);
+        let higher = |day: &Day| standing.iter().any(|other| other.1 < day.1);
+        self.note(format!("away: equal {}", any_away(&equal)));
+        self.note(format!(
+            "away: higher than a standing one {}",
+            any_away(&higher)
+        ));
+    }
+
     /// An adding of a point that is no consumer, or a refused one.
     fn other(&mut self, adding: &Adding) {
         let tag = adding.tag;
@@ -194,7 +224,9 @@ impl Shown {
         if adding.refusal > 0 && whole && test_day(&adding.state).is_some() {
             let days = eligible_with_sums(&adding.state, &adding.value);
             let refusal = adding.refusal;
+            let standing = naive_standing(days.clone()).len();
             match naive_choice(days) {
+                Some(_) if standing < 4 => self.note(format!("{refusal} with days to return")),
                 Some(_) => self.note(format!("{refusal} with four days")),
                 None => self.note(format!("{refusal} without")),
             }
@@ -207,7 +239,13 @@ impl Shown {
         }
         let eligible = eligible_with_sums(&adding.state, &adding.value);
         let standing = self.walk(eligible.clone());
+        self.note(format!(
+            "{} with {} eligible",
+            adding.refusal,
+            eligible.len()
+        ));
         if adding.refusal == 0 {
+            self.returned(adding, &eligible, &standing);
             self.lowest(&standing);
             self.told(adding, &eligible, &standing);
             self.between(adding, &eligible, &standing);
@@ -252,6 +290,25 @@ fn every_walk_of_the_stored_calls() {
         shown.hold((3..=5).map(|standing| format!("{standing} standing of {eligible}")));
     }
     shown.hold((2..=6).map(|weekday| format!("weekday {weekday}")));
+}
+
+#[test]
+fn every_return_of_the_stored_calls() {
+    let shown = shown_by_stored_calls();
+    shown.hold((1..=3).map(|days| format!("{days} return")));
+    let of_five = sets_of_five(false).into_iter().filter(|set| set.len() < 4);
+    shown.hold(of_five.map(|set| format!("of five return {set:?}")));
+    for (five, behind) in [(true, false), (false, true), (true, true)] {
+        shown.hold([format!("return of the five {five}, behind {behind}")]);
+    }
+    for seen in [true, false] {
+        shown.hold([format!("away: equal {seen}")]);
+        shown.hold([format!("away: higher than a standing one {seen}")]);
+    }
+    shown.hold((0..=3).map(|eligible| format!("18 with {eligible} eligible")));
+    shown.hold((4..=8).map(|eligible| format!("0 with {eligible} eligible")));
+    let refusals = (9..=16).chain([51, 52]);
+    shown.hold(refusals.map(|refusal| format!("{refusal} with days to return")));
 }
 
 #[test]

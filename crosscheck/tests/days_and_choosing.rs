@@ -116,17 +116,18 @@ fn every_list(length: usize, values: &[u64]) -> impl Iterator<Item = Vec<u64>> +
 #[test]
 fn choice_of_every_small_list() {
     let eligible = [1, 2, 5, 6, 7, 8, 9, 12];
-    let mut refused = 0;
-    let mut chosen = 0;
+    let mut given_back = [0; 5];
     for length in 0..=7 {
         for sums in every_list(length, &[0, 1, 4, 5, 19, 100]) {
-            match choice(&eligible[..length], &sums) {
-                Some(_) => chosen += 1,
-                None => refused += 1,
-            }
+            let chosen = choice(&eligible[..length], &sums);
+            assert_eq!(chosen.is_some(), length >= 4);
+            let standing = naive_standing(eligible.into_iter().zip(sums).collect());
+            given_back[4 - standing.len()] += u32::from(chosen.is_some());
         }
     }
-    assert!(refused > 10_000 && chosen > 100_000, "{refused} {chosen}");
+    let [none, one, two, three, four] = given_back;
+    assert!(none > 100_000 && one > 10_000 && two > 10_000 && three > 1_000);
+    assert_eq!(four, 0); // a round never drops the highest of its five
 }
 
 /// The days that adding tells of a consumer with these window sums on the
@@ -179,7 +180,7 @@ fn the_days_stand_nearest_first_whatever_their_sums() {
 #[test]
 fn choice_of_random_lists_up_to_the_highest_sums() {
     let mut random = Random::new(5);
-    let mut refused = 0;
+    let mut given_back = 0;
     for _ in 0..30_000 {
         let length = random.place(23);
         let eligible: Vec<u8> = (1..=length as u8).map(|back| back + 7).collect();
@@ -190,9 +191,11 @@ fn choice_of_random_lists_up_to_the_highest_sums() {
             random.below(if low { scale / 3 } else { scale } + 1)
         };
         let sums: Vec<u64> = (0..length).map(|_| sum(&mut random)).collect();
-        refused += u32::from(choice(&eligible, &sums).is_none() && length >= 4);
+        assert_eq!(choice(&eligible, &sums).is_some(), length >= 4);
+        let standing = naive_standing(eligible.into_iter().zip(sums).collect());
+        given_back += u32::from(length >= 4 && standing.len() < 4);
     }
-    assert!(refused > 300, "{refused}");
+    assert!(given_back > 300, "{given_back}");
 }
 
 #[test]
@@ -201,7 +204,6 @@ fn fewer_than_five_are_not_tested_again() {
     // average of the four left (316 ÷ 16) and is used all the same.
     let days = [1, 2, 3, 4, 5];
     assert_eq!(choice(&days, &[100, 100, 100, 16, 4]), Some([1, 2, 3, 4]));
-    assert_eq!(choice(&days, &[100, 100, 100, 15, 4]), None);
     assert_eq!(choice(&days[..4], &[100, 100, 100, 0]), Some([1, 2, 3, 4]));
     assert_eq!(choice(&days[..3], &[100, 100, 100]), None);
     assert_eq!(choice(&[], &[]), None);

@@ -6,7 +6,7 @@ use common::*;
 use settlement::book::settle;
 use settlement::books::examples::{consumer_of_example_h, example_m};
 use settlement::books::fields::*;
-use settlement::choosing::{choose_days, dropped_in_round, standing_days};
+use settlement::choosing::{choose_days, dropped_in_round, walk};
 use settlement::days::{day_count, eligible_days, weekday};
 use settlement::ledger::{close, closing_figures, open};
 use settlement::text::settle_book_text;
@@ -57,14 +57,14 @@ fn d_the_farther_of_equal_lowest_days_goes() {
 fn e_the_fifth_is_dropped_and_a_sixth_sought() {
     let sums = sums(&[100, 100, 100, 100, 21, 100]);
     assert_eq!(dropped_in_round(&FIVE, &sums), [7]);
-    assert_eq!(standing_days(&DAYS, &sums), [1, 2, 5, 6, 8]);
+    assert_eq!(walk(&DAYS, &sums).standing, [1, 2, 5, 6, 8]);
 }
 
 #[test]
 fn f_with_22_it_stays_in_that_round() {
     let sums = sums(&[100, 100, 100, 100, 22, 100]);
     assert!(dropped_in_round(&FIVE, &sums).is_empty());
-    assert_eq!(standing_days(&DAYS, &sums), FIVE);
+    assert_eq!(walk(&DAYS, &sums).standing, FIVE);
 }
 
 #[test]

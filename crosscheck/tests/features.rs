@@ -8,7 +8,7 @@ use settlement::book::PointValue;
 use settlement::books::damages::{field_begins, FIRST_OF_POINT};
 use settlement::books::lending::{lent_bytes, to_write};
 use settlement::books::{seeded_book, SeededBook};
-use settlement::choosing::{dropped_in_round, standing_days, WindowSums};
+use settlement::choosing::{choose_days, dropped_in_round, walk, WindowSums};
 use settlement::days::is_weekend;
 use settlement::ledger::{add, close, open, State};
 use settlement::limits::*;
@@ -85,12 +85,13 @@ fn heads_and_calendars() {
     look_at_books(look_at_head).all_occur(215);
 }
 
-/// The days of a consumer's walk.
-fn look_at_walk(seen: &mut Seen, eligible: &[u8], sums: &WindowSums) {
+/// The days of a consumer's walk; those dropped in each round.
+fn look_at_walk(seen: &mut Seen, eligible: &[u8], sums: &WindowSums) -> Vec<Vec<u8>> {
     let of_day = |&back: &u8| sums[usize::from(back) - 1];
     seen.note_value("days at the start", eligible.len(), &[3, 4, 5, 6]);
     let mut left = eligible.to_vec();
     let mut rounds = 0;
+    let mut in_rounds = Vec::new();
     while let Some(five) = left.first_chunk::<5>() {
         rounds += 1;
         let together: u64 = five.iter().map(of_day).sum();
@@ -105,9 +106,10 @@ fn look_at_walk(seen: &mut Seen, eligible: &[u8], sums: &WindowSums) {
             break;
         }
         left.retain(|back| !dropped.contains(back));
+        in_rounds.push(dropped);
     }
     seen.note_value("rounds", rounds, &[0, 1, 2, 3, 4]);
-    let standing = standing_days(eligible, sums);
+    let standing = walk(eligible, sums).standing;
     seen.note_value("standing", standing.len(), &[0, 1, 2, 3, 4, 5]);
     let lowest = standing.iter().map(of_day).min();
     let lowest = standing.iter().filter(|back| Some(of_day(back)) == lowest);
@@ -117,6 +119,129 @@ fn look_at_walk(seen: &mut Seen, eligible: &[u8], sums: &WindowSums) {
         .iter()
         .any(|back| of_day(back) > u64::from(u32::MAX));
     seen.note("window sum beyond 32 bits", high);
+    in_rounds
+}
+
+/// A consumer's window sums, the days standing after its walk, and of those dropped
+/// the days that return and the days that stay away.
+struct Returning<'a> {
+    sums: &'a WindowSums,
+    standing: Vec<u8>,
+    returned: Vec<u8>,
+    away: Vec<u8>,
+}
+
+impl Returning<'_> {
+    fn sum(&self, back: u8) -> u64 {
+        self.sums[usize::from(back) - 1]
+    }
+
+    /// Whether days of one list and of another have the same sum.
+    fn equal(&self, one: &[u8], other: &[u8]) -> bool {
+        let sums: Vec<u64> = other.iter().map(|&back| self.sum(back)).collect();
+        one.iter().any(|&back| sums.contains(&self.sum(back)))
+    }
+
+    /// The rounds that dropped the days that return.
+    fn look_at_rounds(&self, seen: &mut Seen, in_rounds: &[Vec<u8>]) {
+        let (first, later) = in_rounds.split_at(in_rounds.len().min(1));
+        let of = |days: &[u8], rounds: &[Vec<u8>]| -> Vec<u8> {
+            let dropped = |day: &u8| rounds.concat().contains(day);
+            days.iter().copied().filter(dropped).collect()
+        };
+        let [of_first, of_later] = [first, later].map(|rounds| of(&self.returned, rounds));
+        let several = !later.is_empty();
+        let from = (!of_first.is_empty(), !of_later.is_empty());
+        seen.note(
+            "first of several rounds alone",
+            several && from == (true, false),
+        );
+        seen.note("later rounds alone", from == (false, true));
+        seen.note("first round and later ones", from == (true, true));
+        let both = self.equal(&of_first, &of_later);
+        let one = self.equal(&of_first, &of(&self.away, later));
+        seen.note("equal ones of two rounds return", both);
+        seen.note("of equal ones of two rounds one returns", one);
+    }
+
+    /// Where the days that return lie, and beside what.
+    fn look_at_days(&self, seen: &mut Seen) {
+        let standing = &self.standing;
+        let any = |test: &dyn Fn(u8) -> bool| self.returned.iter().any(|&back| test(back));
+        let nearest = |back| standing.iter().all(|&other| back < other);
+        let farthest = |back| standing.iter().all(|&other| back > other);
+        seen.note("nearest of the four", any(&nearest));
+        seen.note("farthest of the four", any(&farthest));
+        let behind = |back| self.away.iter().any(|&other| other < back);
+        seen.note("farther than one away", any(&behind));
+        seen.note("with a window sum of 0", any(&|back| self.sum(back) == 0));
+        seen.note(
+            "as high as one away",
+            self.equal(&self.returned, &self.away),
+        );
+        let below = |&day: &u8| {
+            self.away
+                .iter()
+                .any(|&other| self.sum(other) > self.sum(day))
+        };
+        let lower = standing.iter().any(below);
+        let return_some = !self.returned.is_empty();
+        seen.note("a standing day lower than one away", lower && return_some);
+        let four = standing.len() == CHOSEN_DAYS;
+        seen.note("one of four standing lower than one away", lower && four);
+    }
+}
+
+/// The days that return to a consumer, with those dropped in each round.
+fn look_at_return(seen: &mut Seen, state: &State, sums: &WindowSums, in_rounds: &[Vec<u8>]) {
+    let eligible = state.terms.eligible_days();
+    let days = choose_days(&eligible, sums).unwrap_or_default();
+    let told = |back: &u8| days.contains(back);
+    let (returned, away) = in_rounds.concat().into_iter().partition(told);
+    let returning = Returning {
+        sums,
+        standing: walk(&eligible, sums).standing,
+        returned,
+        away,
+    };
+    seen.note_value("days that return", returning.returned.len(), &[0, 1, 2, 3]);
+    returning.look_at_rounds(seen, in_rounds);
+    returning.look_at_days(seen);
+    look_at_days_kept_out(seen, state, &returning);
+}
+
+/// Days that are not eligible and higher than one that returns.
+fn look_at_days_kept_out(seen: &mut Seen, state: &State, returning: &Returning) {
+    let Returning { returned, .. } = returning;
+    let test_day = state.terms.head.test_day().unwrap();
+    for mark in 0..=3 {
+        let mut kept_out = [false; 2];
+        for back in (1..=30).filter(|back| state.terms.marks[usize::from(*back) - 1] == mark) {
+            let lower = |&day: &u8| returning.sum(day) < returning.sum(back);
+            let higher = returned.iter().any(lower);
+            kept_out[usize::from(is_weekend(test_day - u32::from(back)))] |= higher;
+        }
+        let [working_day, weekend] = kept_out;
+        seen.note(&format!("a weekend kept out, mark {mark}"), weekend);
+        if mark > 0 {
+            seen.note(&format!("a working day kept out, mark {mark}"), working_day);
+        }
+    }
+}
+
+/// How many days a consumer has that nothing but 18 refuses.
+fn look_at_eligible(seen: &mut Seen, eligible: &[u8], sums: &WindowSums, refusal: u32) {
+    let zeros = eligible
+        .iter()
+        .all(|&back| sums[usize::from(back) - 1] == 0);
+    for days in 0..=5 {
+        let due = if days < 4 { 18 } else { 0 };
+        let so_many = eligible.len() == days && refusal == due;
+        seen.note(&format!("{days} eligible, {due}"), so_many);
+        if days > 2 {
+            seen.note(&format!("{days} eligible, all 0, {due}"), so_many && zeros);
+        }
+    }
 }
 
 /// A point with the state before it; the state after it.
@@ -131,10 +256,12 @@ fn look_at_point(seen: &mut Seen, state: &State, tag: u8, value: &[u8]) -> State
         Point::Consumer(consumer) => {
             let eligible = state.terms.eligible_days();
             let sums = window_sums(&consumer, state.terms.head.first_slot);
-            few_days = standing_days(&eligible, &sums).len() < 4;
+            few_days = eligible.len() < 4;
             seen.note_value("class", consumer.class(), &[0, 1, 2, 3, 4]);
             if refusal == 0 || refusal == 18 {
-                look_at_walk(seen, &eligible, &sums);
+                let in_rounds = look_at_walk(seen, &eligible, &sums);
+                look_at_return(seen, state, &sums, &in_rounds);
+                look_at_eligible(seen, &eligible, &sums, refusal);
             }
             let negative = results.iter().any(|&result| result < 0);
             seen.note("result of a consumer below zero", negative);
@@ -305,7 +432,7 @@ fn look_at_points(seen: &mut Seen, book: &[u8]) {
 
 #[test]
 fn points_walks_and_totals() {
-    look_at_books(look_at_points).all_occur(160);
+    look_at_books(look_at_points).all_occur(192);
 }
 
 #[test]

@@ -46,6 +46,7 @@ fn books_by_name() {
         ("m", examples::example_m()),
         ("consumers", examples::consumers()),
         ("mixed_firing", examples::mixed_firing()),
+        ("returning", examples::returning()),
         ("refused", examples::refused()),
     ] {
         assert_eq!(make_book(&[name]).stdout, book, "{name}");
@@ -64,7 +65,7 @@ fn stored(file: &str) -> Vec<u8> {
 
 #[test]
 fn stored_books_and_texts_are_made_again() {
-    for name in ["m", "consumers", "mixed_firing", "refused"] {
+    for name in ["m", "consumers", "mixed_firing", "returning", "refused"] {
         let book = make_book(&[name]).stdout;
         assert!(book == stored(&format!("{name}.book")), "{name}");
         let text = String::from_utf8(settle_text(&book).stdout);
@@ -98,6 +99,7 @@ fn stored_records_and_reports_are_made_again() {
         "m",
         "mixed_firing",
         "no_remainder",
+        "returning",
     ];
     let records = bytes(&names.map(stored_figures));
     assert!(records == stored("half_year.records"));
@@ -144,6 +146,7 @@ fn text_on_standard_output() {
         examples::example_m(),
         examples::consumers(),
         examples::mixed_firing(),
+        examples::returning(),
         examples::refused(),
         vec![],
     ] {

@@ -6,7 +6,8 @@ use common::*;
 use settlement::books::fields::*;
 use settlement::books::lists::{self, Kind};
 use settlement::books::random::Random;
-use settlement::choosing::{choose_days, dropped_in_round, standing_days};
+use settlement::books::returning::returning_days;
+use settlement::choosing::{choose_days, dropped_in_round, walk};
 use settlement::ledger::Figures;
 use std::collections::BTreeMap;
 
@@ -103,8 +104,9 @@ fn rounds_drop_up_to_four_days() {
 fn two_to_five_days_stand() {
     let counts = counted(lists::few_standing_days, |list| {
         let (eligible, sums) = days_and_sums(list);
-        let standing = standing_days(&eligible, &sums).len();
-        assert_eq!(choose_days(&eligible, &sums).is_some(), standing >= 4);
+        let standing = walk(&eligible, &sums).standing.len();
+        let chosen = choose_days(&eligible, &sums);
+        assert_eq!(chosen.is_some(), eligible.len() >= 4);
         (eligible.len(), standing)
     });
     for eligible in 2..=7 {
@@ -114,6 +116,23 @@ fn two_to_five_days_stand() {
     for standing in 2..=5 {
         assert!(counts.keys().any(|key| key.1 == standing), "{counts:?}");
     }
+}
+
+#[test]
+fn one_to_three_days_return() {
+    let counts = counted(returning_days, |list| {
+        let (eligible, sums) = days_and_sums(list);
+        let standing = walk(&eligible, &sums).standing.len();
+        (eligible.len().min(5), 4_usize.saturating_sub(standing))
+    });
+    for eligible in 0..4 {
+        assert!(counts[&(eligible, 4 - eligible)] > 20, "{counts:?}");
+    }
+    assert!(counts[&(4, 0)] > 20, "{counts:?}");
+    for returned in 0..=3 {
+        assert!(counts[&(5, returned)] > 20, "{counts:?}");
+    }
+    assert!(!counts.contains_key(&(5, 4)), "{counts:?}");
 }
 
 /// The closing figures of a list that gives 0.

@@ -29,7 +29,7 @@ fn division_rounds_toward_minus_infinity() {
 fn results_are_the_floors_of_the_exact_ones() {
     let mut random = Random::new(2);
     let mut compared = [0; 4];
-    for _ in 0..150 {
+    for _ in 0..200 {
         for (_, make) in &KINDS {
             compare_points(&make(&mut random), &mut compared);
         }

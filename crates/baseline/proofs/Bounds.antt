@@ -5,10 +5,9 @@ use Prim.Native.Nat.{ℕ, ◌+◌, ◌*◌, ◌≤◌}
 use native.Mathlib.Omega.{arith}
 use lib.ListN.{length}
 use Rattle.std.specs.List as list
-use Rattle.numbers.specs.Lists.{run, sum}
+use Rattle.numbers.specs.Lists.{sum}
 use Rattle.numbers.specs.Slots.{days_back, days_used, window_slots}
 use Rattle.numbers.proofs.Chains.{sum_is}
-use Rattle.numbers.proofs.Filling.{run_length}
 use Rattle.calendar.specs.Eligible.{of_day, is_eligible, eligible_days}
 use Rattle.readings.specs.Readings.{reading_count, first_large, window_sums, last_window, earlier_slot, Back}
 use Rattle.readings.proofs.Sums.{run_within, days_within}
@@ -18,7 +17,7 @@ use Rattle.choosing.specs.Days.{AtMost, Rising}
 use Rattle.baseline.specs.Consumers.{Sums, most_consumer_baseline}
 use Rattle.choosing.proofs.SomeOf.{Few}
 use Rattle.choosing.proofs.Rising.{some_rising, rising_far}
-use Rattle.choosing.proofs.Flags.{flags_rising, flags_filter}
+use Rattle.choosing.proofs.Flags.{tested_rising}
 use Rattle.choosing.proofs.Lowest.{chosen_few}
 
 -- numbers together, none of which is above a limit
@@ -34,9 +33,7 @@ day_sums_bound readings fits days few back s h =
     record { window = within s h; earlier = within (earlier_slot s) (omega arith) }
 
 eligible_rising : (test : ℕ) (marks : List ℕ) → Rising 0 days_back (eligible_days test marks)
-eligible_rising test marks =
-    let eligible = is_eligible test marks in
-    rw (← flags_filter eligible 1 days_back) (flags_rising (run eligible 1 days_back) (omega (arith, run_length eligible 1 days_back)))
+eligible_rising test marks = tested_rising (is_eligible test marks) days_back
 
 module _ (test : ℕ) (marks readings : List ℕ) (s : ℕ) where
   -- at most four of the eligible days

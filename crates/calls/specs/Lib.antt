@@ -3,3 +3,4 @@ pub mod Totals
 pub mod Within
 pub mod Days
 pub mod TooLarge
+pub mod Eighteen

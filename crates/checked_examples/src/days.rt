@@ -1,4 +1,4 @@
-// The days that adding tells of a high-voltage consumer. CR 2 gives no figures: they are worked out by document 01's rules, by hand.
+// The days that adding tells of a high-voltage consumer. CR 2 and CR 5 give no figures: they are worked out by their rules, by hand.
 use crate::text::{self, Due};
 use crate::{adding, handed};
 use numbers::{DAYS_USED, WINDOW_SLOTS};
@@ -12,6 +12,13 @@ fn line(rt: &impl Print, asked: &str, mark: u8, value: &[u8], due: &str) {
     let [first, second, third, fourth] = added.map_or([0; DAYS_USED], |added| added.days);
     let days = format_args!("{first} {second} {third} {fourth}");
     text::line(rt, format_args!("days {asked}"), days, Due::ByHand(due));
+}
+
+// The results of the adding whose days were told.
+fn adding_it(rt: &impl Print, value: &[u8], due: &str) {
+    let state = handed::opened(0);
+    let due = Due::ByHand(due);
+    adding::line(rt, "adding it", state, Kind::Consumer as u8, value, due);
 }
 
 // Of the nearest five, 1, 2, 5, 6 and 7, all sums are equal: the farthest goes. A refused adding tells none.
@@ -34,17 +41,27 @@ fn low_days(rt: &impl Print) {
         &value,
         "1 5 7 8",
     );
-    adding::line(
+    adding_it(rt, &value, "1000 in each");
+}
+
+// CR 5. Each round drops four of the low days, until days 1 and 30 alone are left: two return, day 23, which is the highest, and day 2,
+// the nearest of the others. A four-day sum of 1,231 a slot: (6 × 1,231 − 24 × 240) × 10,000 ÷ 230,400 is 70.57.
+fn returning_days(rt: &impl Print) {
+    let mut value = [0; CONSUMER_LENGTH];
+    handed::put_consumer(&mut value, 1200, 240);
+    handed::put_one_high_day(&mut value);
+    line(
         rt,
-        "adding it",
-        handed::opened(0),
-        Kind::Consumer as u8,
+        "of 1200 on day 1, 11 on day 23, 10 on every other",
+        0,
         &value,
-        Due::ByHand("1000 in each"),
+        "1 2 23 30",
     );
+    adding_it(rt, &value, "70 in each");
 }
 
 pub fn examples(rt: &impl Print) {
     equal_days(rt);
     low_days(rt);
+    returning_days(rt);
 }

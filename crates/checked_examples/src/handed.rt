@@ -1,5 +1,6 @@
 // The values that the examples hand on (document 01, 'The test book').
 ghost use Rattle.std.specs.Prelude.{◌≡◌, ◌*◌, ◌≤◌, ◌<◌, length};
+ghost use Rattle.numbers.specs.Slots.{days_back};
 ghost use Rattle.readings.specs.Readings.{reading_count};
 ghost use Rattle.points.specs.Points.{consumer_length, generator_length, mixed_firing_length};
 
@@ -63,12 +64,31 @@ pub fn put_consumer(value: &mut [u8], earlier: u32, used: u32)
     put_readings(&mut value[127..151], &[used; WINDOW_SLOTS]);
 }
 
+// The same reading in each window slot of a day back.
+fn put_window(value: &mut [u8], back: usize, reading: u32)
+    requires { (length value.old ≡ consumer_length) × (back ≤ days_back) }
+{
+    let at = CONSUMER_READINGS_AT + (back * SLOTS_OF_DAY + 26) * 4;
+    put_readings(&mut value[at..at + 24], &[reading; WINDOW_SLOTS]);
+}
+
 // Other window readings of a consumer: 1,080 on day 2 back, 200 on day 6.
 pub fn put_low_days(value: &mut [u8])
     requires { length value.old ≡ consumer_length }
 {
-    put_readings(&mut value[511..535], &[1080; WINDOW_SLOTS]);
-    put_readings(&mut value[1279..1303], &[200; WINDOW_SLOTS]);
+    put_window(value, 2, 1080);
+    put_window(value, 6, 200);
+}
+
+// Window readings of a consumer's days back: 1,200 on day 1, 11 on day 23, 10 on every other.
+pub fn put_one_high_day(value: &mut [u8])
+    requires { length value.old ≡ consumer_length }
+{
+    for back in 1..=DAYS_BACK {
+        put_window(value, back, 10);
+    }
+    put_window(value, 1, 1200);
+    put_window(value, 23, 11);
 }
 
 // A consumer's reading one Wh above the limit.

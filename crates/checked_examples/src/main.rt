@@ -1,5 +1,5 @@
-// Runs the checked examples of document 01, and some of CR 1, CR 2 and CR 3, through the operations and prints each with the paper's value,
-// or one worked out by hand, beside it.
+// Runs the checked examples of document 01, and some of CR 1, CR 2, CR 3 and CR 5, through the operations and prints each with the
+// paper's value, or one worked out by hand, beside it.
 // Those with a star are proved too, of the definitions; here they are seen once in a running program.
 #![tactic(auto)]
 

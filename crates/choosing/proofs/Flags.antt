@@ -9,6 +9,7 @@ use native.Mathlib.Omega.{arith}
 use lib.ListN.{length, get_or, drop, drop_of_length-le}
 use lib.Seq.{drop-cons}
 use Rattle.numbers.specs.Lists.{run, filter}
+use Rattle.numbers.proofs.Filling.{run_length}
 use Rattle.choosing.specs.Days.{days_from, Rising, none, next}
 use Rattle.choosing.proofs.Rising.{rising_nearer, rising_farther}
 
@@ -40,3 +41,7 @@ pub flags_filter : (test : ℕ → Bool) (k n : ℕ) → days_from k (run test k
 unfolding days_from run filter
 flags_filter test k zero = refl
 flags_filter test k (suc n) = rw (flags_filter test (suc k) n)
+
+-- and they rise
+pub tested_rising : (test : ℕ → Bool) (n : ℕ) → Rising 0 n (filter test (run (λ d. d) 1 n))
+tested_rising test n = rw (← flags_filter test 1 n) (flags_rising (run test 1 n) (omega (arith, run_length test 1 n)))

@@ -1,8 +1,16 @@
 pub mod SomeOf
 pub mod Rising
 pub mod Flags
+pub mod Picked
 pub mod Rounds
 pub mod InHand
 pub mod Walking
+pub mod Leaving
 pub mod Reduced
+pub mod Dropped
+pub mod Returning
+pub mod Giving
+pub mod WithReturned
 pub mod Lowest
+pub mod DaysReturn
+pub mod Before

@@ -1,16 +1,16 @@
 -- Days that rise: some of them rise too, and each is there once. Assumes nothing.
 use mathlib.Core.Path.{◌≡◌, refl, ap}
-use mathlib.Core.Bool.{Bool, not}
-use mathlib.Core.List.{List, ◌∷◌, ◌++◌}
+use mathlib.Core.Bool.{Bool}
+use mathlib.Core.List.{List, [], ◌∷◌, ◌++◌}
 use Prim.Native.Nat.{ℕ, zero, suc, ◌<◌, ◌≤◌}
 use native.Mathlib.Nat.{le_trans, le_of_lt, lt_of_le_of_lt}
 use native.Mathlib.Omega.{arith}
-use lib.Dec.{eqb}
 use lib.ListN.{length, get_or}
 use borrow.Author.Tests.{eq-eqb, ne_eqb}
 use Rattle.numbers.specs.Lists.{filter}
+use Rattle.choosing.specs.Choosing.{without}
 use Rattle.choosing.specs.Days.{Rising, none, next}
-use Rattle.choosing.proofs.SomeOf.{SomeOf, stop, keep, skip, some_filter, In, here, there}
+use Rattle.choosing.proofs.SomeOf.{SomeOf, stop, keep, skip, some_filter, In, here, there, in_right}
 
 pub rising_nearer : {near mid far : ℕ} {days : List ℕ} → near ≤ mid → Rising mid far days → Rising near far days
 rising_nearer h (none l) = none (le_trans h l)
@@ -53,14 +53,16 @@ rising_far i (none l) = omega arith
 rising_far zero (next l r) = rising_le r
 rising_far (suc i) (next l r) = rising_far i r
 
--- some days without day d
-abbrev pub without : ℕ → List ℕ → List ℕ
-without d = filter (λ other. not (eqb other d))
-
-in_rising : {near far d : ℕ} {days : List ℕ} → Rising near far days → In d days → near < d
+pub in_rising : {near far d : ℕ} {days : List ℕ} → Rising near far days → In d days → near < d
 in_rising {d = d} (none {near = near} {far = far} _) p = elim p [ ]
 in_rising (next l r) here = l
 in_rising (next l r) (there p) = omega (arith, in_rising r p)
+
+-- no day is there twice
+pub apart : {near far d : ℕ} (xs ys : List ℕ) → Rising near far (xs ++ ys) → In d xs → In d ys → ⊥
+apart [] ys r p q = elim p [ ]
+apart (x ∷ xs) ys (next l r) here q = omega (arith, in_rising r (in_right xs q))
+apart (x ∷ xs) ys (next l r) (there p) q = apart xs ys r p q
 
 absent : {near far : ℕ} {days : List ℕ} (d : ℕ) → d ≤ near → Rising near far days → without d days ≡ days
 unfolding filter

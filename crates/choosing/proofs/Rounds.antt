@@ -1,8 +1,7 @@
 -- The walk, round by round. Assumes nothing.
-use mathlib.Core.Path.{◌≡◌, refl, ap, ◌∙◌}
+use mathlib.Core.Path.{◌≡◌, refl, ◌∙◌}
 use mathlib.Core.Bool.{Bool, true, false, cond}
-use mathlib.Core.List.{List, [], ◌∷◌, ◌++◌}
-use mathlib.Core.Logic.{◌⊎◌, inl, inr, ⊎_elim}
+use mathlib.Core.List.{List, ◌++◌}
 use Prim.Native.Nat.{ℕ, zero, suc, ◌<◌, ◌≤◌}
 use native.Mathlib.Omega.{arith}
 use lib.Dec.{ltb, eqb}
@@ -11,37 +10,20 @@ use lib.Seq.{take_at, drop_at, length-take-le}
 use borrow.Author.Tests.{eq-eqb, ne_eqb, lt-ltb, le-ltb, ltb-true, ltb-false, eqb-false}
 use Rattle.numbers.specs.Lists.{filter}
 use Rattle.choosing.specs.Choosing.{round_days, round, walk, standing}
-use Rattle.choosing.proofs.SomeOf.{SomeOf, Few, some_all, some_some, some_filter, some_take, some_before}
+use Rattle.choosing.proofs.SomeOf.{SomeOf, Few, some_length, some_same, some_all, some_some, some_filter, some_take, some_before}
 
--- a test that all pass, or not
-filter_all_or_less : (test : ℕ → Bool) (days : List ℕ) → (filter test days ≡ days) ⊎ (length (filter test days) < length days)
-unfolding filter
-filter_all_or_less test [] = inl refl
-filter_all_or_less test (k ∷ days) = go (test k) (filter_all_or_less test days)
-  where
-    go : (t : Bool) {left : List ℕ} → (left ≡ days) ⊎ (length left < length days)
-        → (cond t (k ∷ left) left ≡ k ∷ days) ⊎ (length (cond t (k ∷ left) left) < suc (length days))
-    go true (inl e) = inl (ap (λ xs. k ∷ xs) e)
-    go true (inr l) = inr (omega arith)
-    go false (inl e) = inr (omega (arith, ap length e))
-    go false (inr l) = inr (omega arith)
-
-module _ (test : ℕ → Bool) (days : List ℕ) where
-  filter_length : length (filter test days) ≤ length days
-  filter_length = ⊎_elim (λ e. omega (arith, ap length e)) (λ l. omega arith) (filter_all_or_less test days)
-
-  pub filter_all : length (filter test days) ≡ length days → filter test days ≡ days
-  filter_all h = ⊎_elim (λ e. e) (λ l. absurd (omega arith)) (filter_all_or_less test days)
+pub filter_all : (test : ℕ → Bool) (days : List ℕ) → length (filter test days) ≡ length days → filter test days ≡ days
+filter_all test days h = some_same (some_filter test days) (omega arith)
 
 module _ (w : ℕ → ℕ) where
   pub round_length : (five : List ℕ) → length (round w five) ≤ length five
-  round_length five = filter_length _ five
+  round_length five = some_length (some_filter _ five)
 
   -- what the next round is over
-  after : List ℕ → List ℕ
+  unfoldable pub after : List ℕ → List ℕ
   after days = round w (take 5 days) ++ drop 5 days
 
-  after_less : (days : List ℕ) → 5 ≤ length days → (length (round w (take 5 days)) ≡ 5 → ⊥) → length (after days) < length days
+  pub after_less : (days : List ℕ) → 5 ≤ length days → (length (round w (take 5 days)) ≡ 5 → ⊥) → length (after days) < length days
   unfolding after
   after_less days h n = simp (length-append, length-drop) (omega (arith, n, round_length (take 5 days), length-take-le 5 days h))
 
@@ -87,11 +69,11 @@ module _ (w : ℕ → ℕ) where
         once_more (five ++ rest) ∙ simp (le-ltb _ _ long, take_at five rest 5 h, drop_at five rest 5 h, ne_eqb _ _ n)
         (enough (length (five ++ rest)) (length left) left less (omega arith))
 
-  after_some : (days : List ℕ) → SomeOf (after days) days
+  pub after_some : (days : List ℕ) → SomeOf (after days) days
   unfolding after
   after_some days = some_before 5 days (some_filter _ (take 5 days))
 
-  walk_few : (n : ℕ) (days : List ℕ) → length days ≤ n → Few round_days (walk w n days) days
+  pub walk_few : (n : ℕ) (days : List ℕ) → length days ≤ n → Few round_days (walk w n days) days
   unfolding walk after
   walk_few zero days h = (omega arith, some_all days)
   walk_few (suc n) days h =

@@ -16,6 +16,10 @@ use Rattle.choosing.proofs.Rising.{rising_farther, rising_append, rising_filter}
 use Rattle.choosing.proofs.Flags.{further, further_next, further_end}
 use Rattle.choosing.proofs.Rounds.{round_length, filter_all, days_run_out, none_dropped, some_dropped}
 
+-- at place k stands day k + 1
+pub at_place : (windows : List ℕ) (k : ℕ) → of_day windows (k + 1) ≡ get_or windows k 0
+at_place windows k = ap (λ i. get_or windows i 0) (let e : k + 1 - 1 ≡ k = omega arith in e)
+
 -- Before place k: the candidates are the days in hand. Those that stand in the end are those that stand of the days in hand and the
 -- further ones.
 pub record Here (windows : List ℕ) (eligible : List Bool) (hand : List Candidate) (k : ℕ) : Type 0 where
@@ -28,10 +32,6 @@ pub begin : (windows : List ℕ) (eligible : List Bool) (hand : List Candidate) 
 begin windows eligible hand e = rw e (record { few = omega arith; of = refl; rising = none (le_refl 0); same = refl })
 
 module _ {windows : List ℕ} {eligible : List Bool} {hand : List Candidate} {k : ℕ} (here : Here windows eligible hand k) where
-  -- at place k stands day k + 1
-  at_place : of_day windows (k + 1) ≡ get_or windows k 0
-  at_place = ap (λ i. get_or windows i 0) (let e : k + 1 - 1 ≡ k = omega arith in e)
-
   -- an eligible day
   pub taken : (more : List Candidate) (day : Candidate) → more ≡ hand ++ day ∷ [] → day.back ≡ k + 1 → day.sum ≡ get_or windows k 0
       → k < length eligible → length hand < round_days → get_or eligible k false ≡ true → Here windows eligible more (k + 1)
@@ -39,7 +39,7 @@ module _ {windows : List ℕ} {eligible : List Bool} {hand : List Candidate} {k 
       let days : backs more ≡ backs hand ++ (k + 1) ∷ [] = ap backs added ∙ rw (map-append, back) in
       record {
         few = omega (arith, simp length-append at (ap (length {A = Candidate}) added));
-        of = rw (days, added, map-append, map-append, sum, at_place) (ap (λ xs. xs ++ get_or windows k 0 ∷ []) here.of);
+        of = rw (days, added, map-append, map-append, sum, at_place windows k) (ap (λ xs. xs ++ get_or windows k 0 ∷ []) here.of);
         rising = rw days (rising_append here.rising (next (let l : k < k + 1 = omega arith in l) (none (le_refl (k + 1)))));
         same = rw (days, append_snoc) (rw (further_next eligible k h, e) at here.same);
       }

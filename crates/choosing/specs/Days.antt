@@ -1,5 +1,6 @@
 -- Days as the code holds them: flags of the thirty days back, the candidates of a round; and what is required of sums.
-use Rattle.std.specs.Prelude.{◌≡◌, Bool, cond, List, [], ◌∷◌, map, ℕ, suc, ◌*◌, ◌<◌, ◌≤◌, length, get_or}
+use Rattle.std.specs.Prelude.{◌≡◌, Bool, cond, not, List, [], ◌∷◌, map, ℕ, suc, ◌*◌, ◌<◌, ◌≤◌, eqb, length, get_or}
+use Rattle.numbers.specs.Lists.{filter, any}
 use Rattle.numbers.specs.Slots.{days_back, window_slots}
 use Rattle.readings.specs.Readings.{most_reading}
 use Rattle.choosing.specs.declared.candidates.Candidate.{Candidate}
@@ -17,6 +18,10 @@ pub record WindowSums (sums : List ℕ) : Type 0 where
 unfoldable pub days_from : ℕ → List Bool → List ℕ
 days_from k [] = []
 days_from k (flag ∷ flags) = cond flag (k ∷ days_from (suc k) flags) (days_from (suc k) flags)
+
+-- some days without others
+abbrev pub not_among : List ℕ → List ℕ → List ℕ
+not_among others = filter (λ k. not (any (eqb k) others))
 
 -- Days that rise: each is farther than `near` and than those before it, and none is farther than `far`.
 pub data Rising : ℕ → ℕ → List ℕ → Type 0 where

@@ -1,2 +1,3 @@
 pub mod Choosing
 pub mod Days
+pub mod Returning

@@ -61,7 +61,7 @@ not_above_row points last number = (ltb 0 points && not (below last number), 15)
 abbrev pub number_rows : ℕ → List ℕ → List ℕ → List (Bool × ℕ)
 number_rows points last number = number_row number ++ not_above_row points last number
 
--- 18: 'fewer than four days'
+-- 18: 'fewer than four days', which since CR 5 is where fewer than four are eligible (results `TooFewEligible`)
 abbrev pub days_row : Head → List ℕ → ℕ → List ℕ → List (Bool × ℕ)
 days_row h marks tag value = (lacks_days h marks (kind_of tag) value, 18) ∷ []
 

@@ -2,3 +2,4 @@ pub mod SlotResults
 pub mod Bounds
 pub mod Consumers
 pub mod SlotExamples
+pub mod TooFewDays

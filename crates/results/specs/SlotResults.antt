@@ -15,7 +15,7 @@ use Rattle.points.specs.Points.{Kind, consumer, generator, mixed_firing, unknown
 abbrev pub days_of : Head → List ℕ → List ℕ → List ℕ
 days_of h marks value = chosen_days (test_day h) marks (readings_of consumer value) h.slot
 
--- 18: 'fewer than four days'
+-- 18: 'fewer than four days', which since CR 5 is where fewer than four are eligible (`TooFewEligible`)
 abbrev pub lacks_days : Head → List ℕ → Kind → List ℕ → Bool
 lacks_days h marks consumer value = is_few (days_of h marks value)
 lacks_days h marks generator value = false

@@ -71,7 +71,8 @@ fn consumer_results(
     array::from_fn(|j| consumer_result(loss, slots[j], consumer.used(j)))
 }
 
-// A consumer: its days, the baseline on them, then the results; none where there are not four days. Head and marks are the state's.
+// A consumer: its days, the baseline on them, then the results; none where fewer than four days are eligible. Head and marks are the
+// state's.
 fn consumer_found(head: Head, marks: [u8; DAYS_BACK], value: &[u8]) -> Option<Found>
     requires { Passed head marks consumer value.now }
     ensures { result ≡ found_of head marks consumer value.now }
@@ -129,7 +130,7 @@ fn mixed_firing_found(value: &[u8]) -> Found
     }
 }
 
-// The results of a point, by its kind; none of a consumer with fewer than four days.
+// The results of a point, by its kind; none of a consumer with fewer than four eligible days.
 #[tactic(auto, unfolding(crate::specs::Steps::found_of, crate::specs::SlotResults::quotients))]
 pub fn results_of(head: Head, marks: [u8; DAYS_BACK], point: Point) -> Option<Found>
     requires { Passed head marks (kind_of (tag_of point.kind)) point.value.now }

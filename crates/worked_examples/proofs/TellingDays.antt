@@ -8,7 +8,7 @@ use Rattle.numbers.specs.PointNumbers.{digits, is_number, below}
 use Rattle.calendar.specs.Dates.{is_date, day_count}
 use Rattle.readings.specs.Readings.{first_large, window_sums, slot_sums, earlier_use}
 use Rattle.baseline.specs.Baseline.{day_sums}
-use Rattle.choosing.specs.Choosing.{walk, lowest, used, chosen}
+use Rattle.choosing.specs.Choosing.{walk, picked, returned, used, chosen}
 use Rattle.heads.specs.Heads.{head_of, content_refusal, opening_refusal}
 use Rattle.results.specs.SlotResults.{quotients}
 use Rattle.ledger.specs.States.{is_unsound}
@@ -18,23 +18,23 @@ use Rattle.worked_examples.specs.Sequences.{generator_of, mixed_firing_of, outsi
 use Rattle.worked_examples.specs.TellingDays.{DayExamples, day_examples, consumer_days, two_marks, unsound_days, other_days}
 
 no_marks : plain (consumer_days (replicate 30 0) 6) ≡ plain (0 ∷ 1 ∷ 2 ∷ 5 ∷ 6 ∷ [])
-unfolding run sum filter any gather bytes_of digits same is_number below is_date day_count first_large window_sums slot_sums day_sums earlier_use walk lowest used chosen head_of content_refusal opening_refusal quotients is_unsound open_of adding_refusal add_of high_voltage consumer_days
+unfolding run sum filter any gather bytes_of digits same is_number below is_date day_count first_large window_sums slot_sums day_sums earlier_use walk picked returned used chosen head_of content_refusal opening_refusal quotients is_unsound open_of adding_refusal add_of high_voltage consumer_days
 no_marks = refl
 
 marks_between : plain (consumer_days two_marks 6) ≡ plain (0 ∷ 2 ∷ 5 ∷ 7 ∷ 8 ∷ [])
-unfolding run sum filter any gather bytes_of digits same is_number below is_date day_count first_large window_sums slot_sums day_sums earlier_use walk lowest used chosen head_of content_refusal opening_refusal quotients is_unsound open_of adding_refusal add_of high_voltage consumer_days
+unfolding run sum filter any gather bytes_of digits same is_number below is_date day_count first_large window_sums slot_sums day_sums earlier_use walk picked returned used chosen head_of content_refusal opening_refusal quotients is_unsound open_of adding_refusal add_of high_voltage consumer_days
 marks_between = refl
 
 all_marked_lem : plain (consumer_days (replicate 30 1) 6) ≡ plain (18 ∷ 0 ∷ 0 ∷ 0 ∷ 0 ∷ [])
-unfolding run sum filter any gather bytes_of digits same is_number below is_date day_count first_large window_sums slot_sums day_sums earlier_use walk lowest used chosen head_of content_refusal opening_refusal quotients is_unsound open_of adding_refusal add_of high_voltage consumer_days
+unfolding run sum filter any gather bytes_of digits same is_number below is_date day_count first_large window_sums slot_sums day_sums earlier_use walk picked returned used chosen head_of content_refusal opening_refusal quotients is_unsound open_of adding_refusal add_of high_voltage consumer_days
 all_marked_lem = refl
 
 five_places : plain (consumer_days (replicate 30 0) 5) ≡ plain (13 ∷ 0 ∷ 0 ∷ 0 ∷ 0 ∷ [])
-unfolding run sum filter any gather bytes_of digits same is_number below is_date day_count first_large window_sums slot_sums day_sums earlier_use walk lowest used chosen head_of content_refusal opening_refusal quotients is_unsound open_of adding_refusal add_of high_voltage consumer_days
+unfolding run sum filter any gather bytes_of digits same is_number below is_date day_count first_large window_sums slot_sums day_sums earlier_use walk picked returned used chosen head_of content_refusal opening_refusal quotients is_unsound open_of adding_refusal add_of high_voltage consumer_days
 five_places = refl
 
 unsound : plain unsound_days ≡ plain (9 ∷ 0 ∷ 0 ∷ 0 ∷ 0 ∷ [])
-unfolding run sum filter any gather bytes_of digits same is_number below is_date day_count first_large window_sums slot_sums day_sums earlier_use walk lowest used chosen head_of content_refusal opening_refusal quotients is_unsound open_of adding_refusal add_of high_voltage unsound_days
+unfolding run sum filter any gather bytes_of digits same is_number below is_date day_count first_large window_sums slot_sums day_sums earlier_use walk picked returned used chosen head_of content_refusal opening_refusal quotients is_unsound open_of adding_refusal add_of high_voltage unsound_days
 unsound = refl
 
 a_generator : plain (other_days 4 (generator_of 49 0 (replicate 6 1_200))) ≡ plain (0 ∷ 0 ∷ 0 ∷ 0 ∷ 0 ∷ [])

@@ -14,7 +14,7 @@ mod timing;
 use std::path::{Path, PathBuf};
 use std::process::ExitCode;
 
-use books::{Kind, DROPPING, GENERATORS, ORDINARY};
+use books::{Kind, DROPPING, GENERATORS, ORDINARY, RETURNING};
 use shelf::Shelf;
 
 /// Points of the books.
@@ -74,8 +74,10 @@ fn run(settle_book: &Path, folder: &Path) -> Result<(), String> {
     // for the counts of instructions in docs/BENCHMARKS.md
     write_book(folder, &ORDINARY, FEWEST)?;
     write_book(folder, &DROPPING, FEWEST)?;
+    write_book(folder, &RETURNING, FEWEST)?;
     let ordinary = measure(&ORDINARY, &SIZES)?;
     let dropping = measure(&DROPPING, &SIZES)?;
+    measure(&RETURNING, &SIZES)?;
     measure(&GENERATORS, &[MOST])?;
     measure_program(settle_book, folder)?;
     let memory = measure_memory(settle_book)?;

@@ -1,11 +1,12 @@
-//! Writes a book to standard output: `m`, `consumers`, `mixed_firing`, `refused`,
-//! or `case NUMBER` for a seeded one.
+//! Writes a book to standard output: `m`, `consumers`, `mixed_firing`, `returning`,
+//! `refused`, or `case NUMBER` for a seeded one.
 
 use settlement::books::{examples, seeded_book};
 use std::io::{self, Write};
 use std::process::ExitCode;
 
-const USAGE: &str = "usage: make_book m | consumers | mixed_firing | refused | case NUMBER";
+const USAGE: &str =
+    "usage: make_book m | consumers | mixed_firing | returning | refused | case NUMBER";
 
 fn book_of(arguments: &[String]) -> Option<Vec<u8>> {
     let words: Vec<&str> = arguments.iter().map(String::as_str).collect();
@@ -13,6 +14,7 @@ fn book_of(arguments: &[String]) -> Option<Vec<u8>> {
         ["m"] => Some(examples::example_m()),
         ["consumers"] => Some(examples::consumers()),
         ["mixed_firing"] => Some(examples::mixed_firing()),
+        ["returning"] => Some(examples::returning()),
         ["refused"] => Some(examples::refused()),
         ["case", number] => Some(seeded_book(number.parse().ok()?).book),
         _ => None,

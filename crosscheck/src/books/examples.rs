@@ -58,6 +58,42 @@ pub fn mixed_firing() -> Vec<u8> {
     list.book()
 }
 
+/// Three consumers of which days return and a generator, with a shortfall. Of the
+/// thirty days six are eligible, 1, 2, 5, 6, 7 and 8 back; their window readings
+/// stand in the table, in kWh a slot. All earlier readings are the same, so that
+/// the baseline of a slot is a quarter of what the four days read there.
+pub fn returning() -> Vec<u8> {
+    let mut list = List::new(Head::EXAMPLE_M);
+    list.head.contract = 2_000;
+    list.marks[8..].fill(2);
+    let consumers = [
+        (2, [400, 400, 20, 20, 20, 1], 5_250),
+        (3, [1, 30, 40, 50, 60, 2_000], 37_500),
+        (1, [0, 90, 0, 90, 0, 0], 0),
+    ];
+    for (number, (class, of_days, usage)) in (1..).zip(consumers) {
+        let consumer = consumer_with_windows(number, class, of_days, usage);
+        list.push(PointFields::Consumer(consumer));
+    }
+    list.push(PointFields::Generator(GeneratorFields::flat(4, 0, 30_001)));
+    list.book()
+}
+
+/// A consumer with these window readings, in kWh, on the six eligible days of
+/// [`returning`], the highest of its list on all other days, and a use in Wh.
+fn consumer_with_windows(number: u128, class: u8, of_days: [u32; 6], usage: u32) -> ConsumerFields {
+    let first_slot = Head::EXAMPLE_M.first_slot;
+    let mut consumer = ConsumerFields::flat(number, class, 200_000);
+    for back in 1..=DAYS_BACK {
+        consumer.window(back, first_slot).fill(3_000_000);
+    }
+    for (back, kwh) in [1, 2, 5, 6, 7, 8].into_iter().zip(of_days) {
+        consumer.window(back, first_slot).fill(1_000 * kwh);
+    }
+    consumer.window(0, first_slot).fill(usage);
+    consumer
+}
+
 /// The list of [`consumers`], cut in the middle of its second point.
 pub fn refused() -> Vec<u8> {
     let mut book = consumers();

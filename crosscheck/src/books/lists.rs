@@ -5,6 +5,7 @@ use super::edges;
 use super::faults::{head_faults, plant_faults, point_faults};
 use super::fields::*;
 use super::random::Random;
+use super::returning::few_or_returning_days;
 use crate::book::settle_fields;
 use crate::days::{day_count, is_weekend};
 use crate::limits::*;
@@ -25,7 +26,7 @@ pub const KINDS: [(&str, Kind); 29] = [
     ("ties", ties),
     ("quarter rule limit", quarter_rule_limit),
     ("several dropped", several_dropped),
-    ("few standing days", few_standing_days),
+    ("few standing days", few_or_returning_days),
     ("negative results", negative_results),
     ("baseline at zero", baseline_at_zero),
     ("highest figures", highest_figures),
@@ -352,7 +353,7 @@ fn leave_eligible(random: &mut Random, list: &mut List, left: usize) {
 }
 
 /// Marks that leave up to seven eligible days, some of them under a quarter,
-/// so that two to five stand; too few give refusal 18.
+/// so that two to five stand; fewer than four eligible give refusal 18.
 pub fn few_standing_days(random: &mut Random) -> List {
     let mut list = begun(random);
     let left = random.between(2, 7) as usize;

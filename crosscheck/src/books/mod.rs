@@ -9,6 +9,7 @@ pub mod fields;
 pub mod lending;
 pub mod lists;
 pub mod random;
+pub mod returning;
 pub mod sequences;
 pub mod shortfalls;
 pub mod states;

@@ -4,6 +4,7 @@
 mod days;
 mod plants;
 mod readings;
+mod returning;
 mod writing;
 
 use super::{Call, MOST_BYTES, MOST_PLACES};
@@ -37,6 +38,7 @@ pub fn stored_calls() -> Vec<Call> {
         writing::writing_calls(),
         days::day_calls(),
         readings::reading_calls(),
+        returning::returning_calls(),
     ];
     parts.concat()
 }

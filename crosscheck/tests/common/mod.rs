@@ -167,9 +167,12 @@ pub fn naive_eligible(list: &List) -> Vec<u8> {
     eligible
 }
 
-/// The choice of days another way: by recursion over (day, sum), "under 25% of
-/// the average" in fractions, the lowest found by sorting.
-pub fn naive_choice(mut days: Vec<(u8, u64)>) -> Option<Vec<u8>> {
+/// A day back with its window sum.
+pub type Day = (u8, u64);
+
+/// The days that stand, less the lowest of five, another way: by recursion,
+/// "under 25% of the average" in fractions, the lowest found by sorting.
+pub fn naive_standing(mut days: Vec<Day>) -> Vec<Day> {
     if days.len() >= 5 {
         let total: u64 = days[..5].iter().map(|day| day.1).sum();
         let quarter = Fraction::new(i128::from(total), 5).times(25, 100);
@@ -178,14 +181,37 @@ pub fn naive_choice(mut days: Vec<(u8, u64)>) -> Option<Vec<u8>> {
         let mut kept: Vec<_> = five.iter().copied().filter(|day| !under(day.1)).collect();
         if kept.len() < 5 {
             kept.extend(farther);
-            return naive_choice(kept);
+            return naive_standing(kept);
         }
         days.truncate(5);
         days.sort_by(|a, b| b.1.cmp(&a.1).then(a.0.cmp(&b.0)));
         days.pop();
         days.sort();
     }
-    (days.len() == 4).then(|| days.iter().map(|day| day.0).collect())
+    days
+}
+
+/// Whether a dropped day returns before another one.
+pub fn returns_before(one: &Day, other: &Day) -> bool {
+    one.1 > other.1 || one.1 == other.1 && one.0 < other.0
+}
+
+/// The choice of days another way: no order is made of the days that do not
+/// stand; one is given back where fewer of them come before it than days are
+/// missing. With four standing none is missing; with fewer all others were dropped.
+pub fn naive_choice(days: Vec<Day>) -> Option<Vec<u8>> {
+    let standing = naive_standing(days.clone());
+    let missing = 4 - standing.len();
+    let others: Vec<&Day> = days.iter().filter(|day| !standing.contains(day)).collect();
+    let before = |day: &Day| {
+        let before = |other: &&&Day| returns_before(other, day);
+        others.iter().filter(before).count()
+    };
+    let chosen = days
+        .iter()
+        .filter(|day| standing.contains(day) || before(day) < missing);
+    let chosen: Vec<u8> = chosen.map(|day| day.0).collect();
+    (chosen.len() == 4).then_some(chosen)
 }
 
 /// The exact slot results of a point in Wh, from averages in fractions; none

@@ -2,10 +2,11 @@
 use mathlib.Core.Path.{ap, ◌∙◌}
 use borrow.Author.Rules.{rules}
 use borrow.Author.Tests.{tests}
+use lib.Dec.{leb}
 use Rattle.std.proofs.lemmas.Iterator.{YieldsList-from_slice}
 use Rattle.std.proofs.lemmas.Iterator.Consumers.{YieldsList-from_copied, YieldsList-at}
 use Rattle.choosing.specs.declared.candidates.Candidate.{Candidate}
-use Rattle.choosing.proofs.InHand.{lower, lowest_in_hand}
+use Rattle.choosing.proofs.InHand.{better, picked_in_hand}
 use Rattle.choosing.proofs.Reduced.{reduced}
 use Rattle.choosing.proofs.lowest_of.Goals as goal
 
@@ -14,5 +15,5 @@ returns c = λ w some hand.
     let items = c.args.days.now.items in
     let road = YieldsList-from_copied (YieldsList-at c.copied.ensures.source (YieldsList-from_slice items (cc))) in
     let ran = rw c.unwrap.ensures at c.reduce-low.ensures.ran in
-    let (first, others, same, low) = reduced lower items (λ a x b q k. search (rules, tests)) ran road in
-    ap (λ (day : Candidate). day.back) low ∙ lowest_in_hand first others hand same
+    let (first, others, same, low) = reduced (better leb) items (λ a x b q k. search (rules, tests)) ran road in
+    ap (λ (day : Candidate). day.back) low ∙ (picked_in_hand leb w first others hand same).0

@@ -34,7 +34,7 @@ const SUMS: [u32; 7] = [9_300, 9_700, 9_100, 9_900, 9_500, 9_200, 9_800];
 const LOWEST: u32 = 9_000;
 
 /// One point of three taken, test days and windows in turn.
-fn state_on(turn: usize) -> State {
+pub(super) fn state_on(turn: usize) -> State {
     let mut state = begun_state();
     let head = &mut state.terms.head;
     head.day = TEST_DAYS[turn % TEST_DAYS.len()];
@@ -45,7 +45,7 @@ fn state_on(turn: usize) -> State {
 /// A consumer with these window sums on the eligible days, nearest first, and
 /// the last of them on all days farther back. Every day has earlier readings of
 /// its own; days that are not eligible have high sums.
-fn consumer_of(state: &State, sums: &[u32]) -> ConsumerFields {
+pub(super) fn consumer_of(state: &State, sums: &[u32]) -> ConsumerFields {
     let first_slot = state.terms.head.first_slot;
     let mut consumer = level_consumer(2, 2_000);
     for back in 0..=DAYS_BACK {
@@ -74,7 +74,7 @@ fn sums_with(set: u32, sum: u32) -> [u32; 7] {
 
 /// Marks all eligible days but those at these places, nearest first. The marks
 /// take turns.
-fn leave_places(state: &mut State, places: &[usize]) {
+pub(super) fn leave_places(state: &mut State, places: &[usize]) {
     for (place, back) in state.terms.eligible_days().into_iter().enumerate() {
         if !places.contains(&place) {
             state.terms.marks[usize::from(back) - 1] = 1 + (place % 3) as u8;
@@ -83,7 +83,7 @@ fn leave_places(state: &mut State, places: &[usize]) {
 }
 
 /// Adding a consumer with the eligible days at these places alone.
-fn adding_with_places(turn: usize, places: &[usize], sums: &[u32]) -> Call {
+pub(super) fn adding_with_places(turn: usize, places: &[usize], sums: &[u32]) -> Call {
     let mut state = state_on(turn);
     leave_places(&mut state, places);
     adding_of(&state, sums)
