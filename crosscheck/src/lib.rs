@@ -1,6 +1,6 @@
 //! A separate settlement of the effectiveness test ledger.
 //!
-//! Written from document 01 and change requests 1 to 5 alone, so that it can
+//! Written from document 01 and change requests 1 to 6 alone, so that it can
 //! disagree with the product. Each module is one section of document 01, or
 //! one change request; "rule N" means refusal N.
 
@@ -14,6 +14,7 @@ pub mod calls;
 pub mod choosing;
 pub mod days;
 pub mod demand3;
+pub mod every_date;
 pub mod ledger;
 pub mod limits;
 pub mod point;

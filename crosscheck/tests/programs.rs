@@ -1,4 +1,4 @@
-//! The programs that read or write books and records, run as programs.
+//! The programs that read or write books, records and dates, run as programs.
 
 mod common;
 
@@ -12,6 +12,7 @@ use std::process::{Command, Output, Stdio};
 
 const SETTLE_TEXT: &str = env!("CARGO_BIN_EXE_settle_text");
 const REPORT_TEXT: &str = env!("CARGO_BIN_EXE_report_text");
+const DATE_TEXT: &str = env!("CARGO_BIN_EXE_date_text");
 const MAKE_BOOK: &str = env!("CARGO_BIN_EXE_make_book");
 const MAKE_RECORDS: &str = env!("CARGO_BIN_EXE_make_records");
 
@@ -169,6 +170,14 @@ fn report_on_standard_output() {
     assert_eq!(with_input(REPORT_TEXT, &[0]).stdout, b"refused 53\n");
 }
 
+/// The stored output of the program every_date.
+#[test]
+fn every_date_on_standard_output() {
+    let output = with_arguments(DATE_TEXT, &[]);
+    assert!(output.stdout == stored("../crates/every_date/stdout"));
+    assert!(output.status.success() && output.stderr.is_empty());
+}
+
 #[cfg(unix)]
 #[test]
 fn a_read_error_goes_to_standard_error() {
@@ -177,5 +186,17 @@ fn a_read_error_goes_to_standard_error() {
         let output = Command::new(program).stdin(folder).output().unwrap();
         assert_eq!(output.status.code(), Some(1));
         assert!(output.stdout.is_empty() && !output.stderr.is_empty());
+    }
+}
+
+#[cfg(target_os = "linux")]
+#[test]
+fn a_write_error_goes_to_standard_error() {
+    for program in [SETTLE_TEXT, REPORT_TEXT, DATE_TEXT] {
+        let full = File::create("/dev/full").unwrap();
+        let mut command = Command::new(program);
+        let output = command.stdin(Stdio::null()).stdout(full).output().unwrap();
+        assert_eq!(output.status.code(), Some(1));
+        assert!(!output.stderr.is_empty());
     }
 }

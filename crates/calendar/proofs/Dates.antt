@@ -28,7 +28,7 @@ pub record Parts (year month day : ℕ) : Type 0 where
   pub first_day_lem : 1 ≤ day
   pub last_day_lem : day ≤ days_in year month
 
-one_most : (b : Bool) → cond b 1 0 ≤ 1
+pub one_most : (b : Bool) → cond b 1 0 ≤ 1
 one_most true = omega arith
 one_most false = omega arith
 

@@ -40,7 +40,7 @@ month_days = 31 ∷ 28 ∷ 31 ∷ 30 ∷ 31 ∷ 30 ∷ 31 ∷ 31 ∷ 30 ∷ 31 �
 abbrev pub days_in : ℕ → ℕ → ℕ
 days_in year month = get_or month_days (month - 1) 0 + cond (is_leap year && eqb month 2) 1 0
 
--- 'The days before each month', in a common year: of these twelve numbers the code keeps a table
+-- 'The days before each month', in a common year
 abbrev pub common_days_before : ℕ → ℕ
 common_days_before month = sum (take (month - 1) month_days)
 

@@ -6,16 +6,21 @@ ghost use Rattle.numbers.specs.Lists.{run};
 ghost use Rattle.numbers.specs.Refusals.{first_told};
 ghost use Rattle.refusals.specs.Told.{number_told};
 ghost use Rattle.numbers.specs.Slots.{days_back};
-ghost use Rattle.calendar.specs.Dates.{first_day, last_day, IsMonth, is_leap, days_in, common_days_before, days_before, is_date};
-ghost use Rattle.calendar.specs.Dates.{day_count, is_weekend};
+ghost use Rattle.calendar.specs.Dates.{first_day, last_day, IsMonth, is_leap, days_in, is_date, day_count, is_weekend};
+ghost use Rattle.calendar.specs.FromMarch.{month_from_march, year_from_march, days_from_march, end_from_march};
 ghost use Rattle.calendar.specs.Eligible.{no_mark, mark_row, is_eligible, Decodes};
 
 use numbers::DAYS_BACK;
 use refusals::Refusal;
 use std::array;
 
-// The days before each month of a common year: the fixed table of document 01, 'Days'.
-const DAYS_BEFORE: [u32; 12] = [0, 31, 59, 90, 120, 151, 181, 212, 243, 273, 304, 334];
+const FEBRUARY: u8 = 2;
+
+// The days of a common year.
+const COMMON_YEAR: u32 = 365;
+
+// The count of 2000-03-01.
+const MARCH_2000: u32 = 60;
 
 // The mark of a day back.
 #[derive(Clone, Copy, Debug, PartialEq, Eq)]
@@ -62,30 +67,45 @@ impl Month {
         }
     }
 
-    // The days before it in a common year.
-    fn common_days_before(self) -> u32
-        ensures { result ≡ common_days_before self.number }
+    // Counted from March as 0, which makes January and February the last two.
+    fn from_march(self) -> u8
+        ensures { result ≡ month_from_march self.number }
     {
-        DAYS_BEFORE[usize::from(self.number - 1)]
+        (self.number + 9) % 12
+    }
+
+    // The year it belongs to, where years begin with March.
+    fn year_from_march(self, year: u16) -> u16
+        requires { 1 ≤ year }
+        ensures { result ≡ year_from_march year self.number }
+    {
+        year - u16::from(self.number <= FEBRUARY)
+    }
+
+    // The days before its end in a year that begins with March: it ends where the next month begins, and February with the year.
+    fn end_from_march(self, year: u16) -> u32
+        ensures { result ≡ end_from_march year self.number }
+    {
+        if self.number == FEBRUARY {
+            COMMON_YEAR + u32::from(is_leap(year))
+        } else {
+            days_from_march(self.from_march() + 1)
+        }
     }
 
     // Its days.
     fn days_in(self, year: u16) -> u8
         ensures { result ≡ days_in year self.number }
     {
-        match self.number {
-            2 => { if is_leap(year) { 29 } else { 28 } }
-            4 | 6 | 9 | 11 => 30,
-            _ => 31,
-        }
+        (self.end_from_march(year) - days_from_march(self.from_march())) as u8
     }
+}
 
-    // The days before it, with one day more after February in a leap year.
-    fn days_before(self, year: u16) -> u32
-        ensures { result ≡ days_before year self.number }
-    {
-        self.common_days_before() + u32::from(is_leap(year) && 2 < self.number)
-    }
+// The days before a month in a year that begins with March, the month 0.
+fn days_from_march(month: u8) -> u32
+    ensures { result ≡ days_from_march month }
+{
+    (153 * u32::from(month) + 2) / 5
 }
 
 // From 2000 to 2099 each fourth year is a leap year.
@@ -103,16 +123,17 @@ pub fn is_date(year: u16, month: u8, day: u8) -> bool
         && Month::new(month).is_some_and(|month| (1..=month.days_in(year)).contains(&day))
 }
 
-// The count of a date in days from 2000-01-01, a Saturday, as 0. Whoever asks has the three in a head: a date of its own would be made to
-// be taken apart.
+// The count of a date in days from 2000-01-01, a Saturday, as 0. Opening and adding have the three in a head: a date of its own would be
+// made to be taken apart.
 pub fn day_count(year: u16, month: u8, day: u8) -> u32
     requires { is_date year month day ≡ true }
     ensures counted { result ≡ day_count year month day }
     ensures within { (first_day ≤ result) × (result ≤ last_day) }
 {
-    let years = u32::from(year - 2000);
-    let month = Month { number: month };
-    365 * years + (years + 3) / 4 + month.days_before(year) + u32::from(day - 1)
+    let of_date = Month { number: month };
+    let years = u32::from(of_date.year_from_march(year) - 2000);
+    let before_month = days_from_march(of_date.from_march());
+    MARCH_2000 + COMMON_YEAR * years + years / 4 + before_month + u32::from(day - 1)
 }
 
 // The count's remainder by 7 gives the weekday: 0 Saturday, 1 Sunday.

@@ -69,7 +69,7 @@ mod tests {
     use super::*;
 
     /// How many wrong settlements there are; docs/MUTATIONS.md has a row for each.
-    const WRONG_SETTLEMENTS: usize = 562;
+    const WRONG_SETTLEMENTS: usize = 585;
 
     /// The list is tried in full by the program; here no edit may fall behind the sources.
     #[test]

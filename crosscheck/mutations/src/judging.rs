@@ -1,8 +1,8 @@
 //! Holds a wrong settlement against the separate settlement, case by case.
 //!
 //! Every case is made and answered by the unchanged settlement; the wrong one
-//! only answers it. Cases are books, single calls, sequences of calls and inputs
-//! of the report.
+//! only answers it. Cases are books, single calls, sequences of calls, inputs of
+//! the report, and every date.
 
 #![forbid(unsafe_code)]
 #![warn(missing_docs)]
@@ -41,6 +41,8 @@ pub trait Answers {
     fn account(&self, given: &Sequence) -> String;
     /// What the program report prints for an input.
     fn report(&self, input: &[u8]) -> String;
+    /// What the program every_date prints.
+    fn every_date(&self) -> String;
 }
 
 /// The answers of a crate with the modules of the separate settlement.
@@ -105,6 +107,10 @@ macro_rules! answers_of {
 
             fn report(&self, input: &[u8]) -> String {
                 $settlement::report::report_text(input)
+            }
+
+            fn every_date(&self) -> String {
+                $settlement::every_date::every_date_text()
             }
         }
 
@@ -313,13 +319,37 @@ fn told_by_input(wrong: &dyn Answers) -> Option<String> {
     })
 }
 
+/// The first date whose line differs, and what is said of it.
+fn date_that_differs(due: &str, found: &str) -> String {
+    let mut lines = due.lines().zip(found.lines());
+    match lines.find(|(due, found)| due != found) {
+        Some((due, found)) => {
+            let (date, due) = due.split_once(' ').unwrap_or((due, "nothing"));
+            let found = found.strip_prefix(date).unwrap_or(found).trim_start();
+            format!("date {date} | {found} instead of {due}")
+        }
+        None => "date text | more or fewer lines".to_string(),
+    }
+}
+
+/// The first date that tells a wrong settlement apart. The text is made in one go,
+/// so that a panic has no date.
+fn told_by_date(wrong: &dyn Answers) -> Option<String> {
+    let due = Unchanged.every_date();
+    match guarded(|| wrong.every_date()) {
+        Ok(found) => (found != due).then(|| date_that_differs(&due, &found)),
+        Err(panics) => Some(format!("date text | {panics}")),
+    }
+}
+
 /// The first case that tells a wrong settlement apart: books before calls before
-/// sequences before inputs of the report.
+/// sequences before inputs of the report before dates.
 fn told_by_any(wrong: &dyn Answers, books: u64) -> Option<String> {
     told_by_book(wrong, books)
         .or_else(|| told_by_call(wrong))
         .or_else(|| told_by_sequence(wrong))
         .or_else(|| told_by_input(wrong))
+        .or_else(|| told_by_date(wrong))
 }
 
 /// The argument of a program that answers the inputs of the report alone.

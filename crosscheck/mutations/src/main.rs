@@ -5,7 +5,8 @@
 //!
 //! Tries the seeded books from 0 on, BOOKS of them (default 20,000), then the
 //! stored calls, then seeded sequences of calls, then seeded inputs of the report,
-//! and of a wrong report these alone; with names, only those wrong settlements.
+//! then every date, and of a wrong report the inputs alone; with names, only those
+//! wrong settlements.
 //! Prints one row for each: its name, the rule it breaks, the case, both answers.
 //! The last line has the counts. The exit status is 1 where one is told apart by
 //! no case, or cannot be tried, or where the settlement without an edit is told
@@ -29,6 +30,7 @@ struct Counts {
     by_call: u32,
     by_sequence: u32,
     by_input: u32,
+    by_date: u32,
     by_none: u32,
     not_tried: u32,
 }
@@ -40,7 +42,8 @@ impl Counts {
             Some("book") => &mut self.by_book,
             Some("call") => &mut self.by_call,
             Some("sequence") => &mut self.by_sequence,
-            _ => &mut self.by_input,
+            Some("input") => &mut self.by_input,
+            _ => &mut self.by_date,
         }
     }
 
@@ -125,10 +128,10 @@ fn run(arguments: &[String]) -> Result<bool, String> {
     println!("| Wrong settlement | Rule | Case | Answers |\n|---|---|---|---|");
     let counts = judge_all(&shared, &edits, books);
     println!(
-        "{} wrong settlements, of at most {books} books, the stored calls, the seeded sequences and the seeded inputs: \
-         {} told apart by a book, {} by a call, {} by a sequence, {} by an input, {} by none, {} not tried; \
+        "{} wrong settlements, of at most {books} books, the stored calls, the seeded sequences, the seeded inputs and every date: \
+         {} told apart by a book, {} by a call, {} by a sequence, {} by an input, {} by a date, {} by none, {} not tried; \
          the unchanged one by none",
-        edits.len(), counts.by_book, counts.by_call, counts.by_sequence, counts.by_input, counts.by_none, counts.not_tried
+        edits.len(), counts.by_book, counts.by_call, counts.by_sequence, counts.by_input, counts.by_date, counts.by_none, counts.not_tried
     );
     Ok(counts.by_none + counts.not_tried == 0)
 }
