@@ -18,7 +18,8 @@
  *   - Overlap: result must not overlap book, and out must not overlap head, calendar or value. The contracts are about
  *     memory that does not; what a call does with memory that does is not said. Head and calendar may overlap.
  *   - Threads: the library has no state and no variables. Calls may run at the same time in any number of threads, if
- *     nobody writes to what a call has been lent until it returns. A call takes about one kilobyte of stack.
+ *     nobody writes to what a call has been lent until it returns.
+ *   - Stack: tembuyas_settle_book takes about six and a half kilobytes, the two other functions a quarter of one.
  *
  * Figures. The results are those of the rules in docs/BOOK.md. They are not those of OCCTO's form 10 (docs/DESK.md).
  */

@@ -1,3 +1,4 @@
 pub mod Readings
 pub mod Closings
 pub mod Endings
+pub mod Results

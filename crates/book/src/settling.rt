@@ -31,7 +31,11 @@ fn read_points(opened: State, book: &[u8]) -> Result<State, Refusal>
             return Err(field.unwrap_err());
         };
         let mut places = [0i64; WINDOW_SLOTS];
-        state = ledger::add(state, point.tag, point.value, &mut places)?.state;
+        // Not by `?`, which copies the state once more.
+        match ledger::add(state, point.tag, point.value, &mut places) {
+            Ok(added) => state = added.state,
+            Err(refusal) => return Err(refusal),
+        }
         left = point.behind;
     }
     if !left.is_empty() {

@@ -1,11 +1,17 @@
 -- What a date tells of its year, month and day, and the bounds of its count. Assumes nothing.
 use mathlib.Core.Path.{◌≡◌, refl}
-use mathlib.Core.Bool.{Bool, true, false, cond, ◌&&◌, and-eq-true_iff}
+use mathlib.Core.Bool.{Bool, true, false, cond, ◌&&◌, ◌||◌, and-eq-true_iff, and-false}
+use mathlib.Core.List.{List, [], ◌∷◌}
+use mathlib.Core.Logic.{inl, inr, ⊎_elim}
 use Prim.Native.Nat.{ℕ, ◌+◌, ◌-◌, ◌≤◌, ◌%◌}
+use native.Mathlib.Nat.{sub-add_cancel}
 use native.Mathlib.Omega.{arith}
-use lib.Dec.{leb, ltb, eqb, leb→le}
+use lib.Dec.{leb, ltb, eqb, leb→le, eqb→eq}
 use lib.ListN.{get_or, take}
-use borrow.Author.Tests.{leb-true, eqb-true}
+use mir.Val.{has_key}
+use mir.Facts.{or_yes}
+use types.Run.{OneOf, hit}
+use borrow.Author.Tests.{leb-true, eqb-true, ne_eqb}
 use Rattle.numbers.specs.Lists.{sum}
 use Rattle.calendar.specs.Dates.{first_year, last_year, first_day, last_day, common_year, IsMonth, is_leap, month_days, days_in, common_days_before, is_date, day_count}
 use Rattle.numbers.proofs.Tables.{entry_at}
@@ -17,6 +23,22 @@ module _ (month : ℕ) (m : IsMonth month) where
   pub month_end : common_days_before month + get_or month_days (month - 1) 0 ≤ common_year
   unfolding sum
   month_end = leb→le _ _ (entry_at (λ k days. leb (sum (take k month_days) + days) common_year) month_days tt (month - 1) (omega arith))
+
+  -- any other than February and those of thirty days
+  pub thirty_one : (year : ℕ) → (month ≡ 2 → ⊥) → (OneOf (4 ∷ 6 ∷ 9 ∷ 11 ∷ []) month → ⊥) → days_in year month ≡ 31
+  thirty_one year february thirty =
+      let days = get_or month_days (month - 1) 0 in
+      let shorter : List ℕ = 2 ∷ 4 ∷ 6 ∷ 9 ∷ 11 ∷ [] in
+      let t = entry_at (λ k days. eqb days 31 || has_key shorter (k + 1)) month_days tt (month - 1) (omega arith) in
+      ⊎_elim (λ e. simp (eqb→eq days 31 e, ne_eqb month 2 february, and-false))
+      (λ k. absurd (⊎_elim february thirty (hit shorter month (rw (sub-add_cancel m.first) at k))))
+      (or_yes (eqb days 31) (has_key shorter (month - 1 + 1)) t)
+
+pub thirty : (year month : ℕ) → OneOf (4 ∷ 6 ∷ 9 ∷ 11 ∷ []) month → days_in year month ≡ 30
+thirty year month (inl e) = rw (e, and-false)
+thirty year month (inr (inl e)) = rw (e, and-false)
+thirty year month (inr (inr (inl e))) = rw (e, and-false)
+thirty year month (inr (inr (inr e))) = rw (e, and-false)
 
 -- ---- dates
 

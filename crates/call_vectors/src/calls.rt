@@ -2,8 +2,7 @@
 use crate::faults::Fault;
 use crate::parts;
 use crate::text::{FiguresText, Lent, Spaced, StateText};
-use ledger::Added;
-use numbers::DAYS_USED;
+use ledger::told;
 use refusals::{index_told, number_told};
 use std::fmt;
 use std::io::Read;
@@ -83,7 +82,7 @@ impl<P: Print, R: Read> Calls<'_, P, R> {
         let calendar = parts::read_part(self.source, &mut calendar_room)?;
         let opened = ledger::open(head, calendar);
         let refusal = number_told(opened);
-        let state = StateText(opened.unwrap_or(ledger::states::no_state()));
+        let state = StateText(told::opened_state(opened));
         self.answer(format_args!("opening {refusal} {state}"))
     }
 
@@ -104,8 +103,7 @@ impl<P: Print, R: Read> Calls<'_, P, R> {
         let answer = ledger::add(state, tag, value, places);
         let refusal = number_told(answer);
         let index = index_told(answer);
-        let days = [0; DAYS_USED];
-        let added = answer.unwrap_or(Added { state, days });
+        let added = told::added_state(state, answer);
         let after = StateText(added.state);
         let days = Spaced(&added.days);
         let places = Spaced(places);
@@ -117,7 +115,7 @@ impl<P: Print, R: Read> Calls<'_, P, R> {
     fn closing(&mut self) -> Result<(), Fault> {
         let closed = ledger::close(parts::read_state(self.source)?);
         let refusal = number_told(closed);
-        let figures = FiguresText(closed.unwrap_or_default());
+        let figures = FiguresText(told::closed_figures(closed));
         self.answer(format_args!("closing {refusal} {figures}"))
     }
 

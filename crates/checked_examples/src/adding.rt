@@ -26,7 +26,7 @@ fn consumer(rt: &impl Print, asked: &str, mark: u8, earlier: u32, used: u32, due
         rt,
         asked,
         handed::opened(mark),
-        Kind::Consumer as u8,
+        Kind::Consumer.tag(),
         &value,
         Due::Paper(due),
     );

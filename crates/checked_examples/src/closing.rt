@@ -2,6 +2,7 @@
 use crate::handed;
 use crate::text::{self, Due};
 use figures::Figures;
+use ledger::told;
 use numbers::WINDOW_SLOTS;
 use points::{GENERATOR_LENGTH, Kind};
 
@@ -11,9 +12,9 @@ fn figures_of(baseline: u32, first: u32, others: u32) -> Figures {
     handed::put_generator(&mut value, baseline, first, others);
     let mut places = [0; WINDOW_SLOTS];
     let state = handed::opened(0);
-    ledger::add(state, Kind::Generator as u8, &value, &mut places)
-        .and_then(|added| ledger::close(added.state))
-        .unwrap_or_default()
+    let answer = ledger::add(state, Kind::Generator.tag(), &value, &mut places);
+    let added = told::added_state(state, answer);
+    told::closed_figures(ledger::close(added.state))
 }
 
 fn settled(rt: &impl Print, figures: Figures, due: &str) {

@@ -1,15 +1,16 @@
 // The days that adding tells of a high-voltage consumer. CR 2 and CR 5 give no figures: they are worked out by their rules, by hand.
 use crate::text::{self, Due};
 use crate::{adding, handed};
-use numbers::{DAYS_USED, WINDOW_SLOTS};
+use ledger::told;
+use numbers::WINDOW_SLOTS;
 use points::{CONSUMER_LENGTH, Kind};
 
 // The days of an adding under thirty equal marks, and those worked out.
 fn line(rt: &impl Print, asked: &str, mark: u8, value: &[u8], due: &str) {
     let mut places = [0; WINDOW_SLOTS];
     let state = handed::opened(mark);
-    let added = ledger::add(state, Kind::Consumer as u8, value, &mut places);
-    let [first, second, third, fourth] = added.map_or([0; DAYS_USED], |added| added.days);
+    let answer = ledger::add(state, Kind::Consumer.tag(), value, &mut places);
+    let [first, second, third, fourth] = told::added_state(state, answer).days;
     let days = format_args!("{first} {second} {third} {fourth}");
     text::line(rt, format_args!("days {asked}"), days, Due::ByHand(due));
 }
@@ -18,7 +19,7 @@ fn line(rt: &impl Print, asked: &str, mark: u8, value: &[u8], due: &str) {
 fn adding_it(rt: &impl Print, value: &[u8], due: &str) {
     let state = handed::opened(0);
     let due = Due::ByHand(due);
-    adding::line(rt, "adding it", state, Kind::Consumer as u8, value, due);
+    adding::line(rt, "adding it", state, Kind::Consumer.tag(), value, due);
 }
 
 // Of the nearest five, 1, 2, 5, 6 and 7, all sums are equal: the farthest goes. A refused adding tells none.

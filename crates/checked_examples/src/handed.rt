@@ -5,7 +5,7 @@ ghost use Rattle.readings.specs.Readings.{reading_count};
 ghost use Rattle.points.specs.Points.{consumer_length, generator_length, mixed_firing_length};
 
 use heads::HEAD_LENGTH;
-use ledger::State;
+use ledger::{State, told};
 use numbers::{DAYS_BACK, NUMBER_LENGTH, SLOTS_OF_DAY, WINDOW_SLOTS};
 use points::{
     BASELINE_AT, CLASS_AT, CONSUMER_READINGS_AT, GENERATOR_READINGS_AT, MIXED_FIRING_READINGS_AT,
@@ -35,7 +35,7 @@ pub fn head(month: u8, day: u8, slot: u8, count: u16) -> [u8; HEAD_LENGTH]
 
 // The state of a test on 2024-08-07, s 26, with one point due and the same mark on all thirty days.
 pub fn opened(mark: u8) -> State {
-    ledger::open(&head(8, 7, 26, 1), &[mark; DAYS_BACK]).unwrap_or(ledger::states::no_state())
+    told::opened_state(ledger::open(&head(8, 7, 26, 1), &[mark; DAYS_BACK]))
 }
 
 // The readings, of four bytes each, from the front of the part.

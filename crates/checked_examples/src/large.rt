@@ -18,7 +18,7 @@ fn with_large(rt: &impl Print, asked: &str, first: usize, second: usize, due: &s
     handed::put_large(&mut value, second);
     let mut places = [0; WINDOW_SLOTS];
     let state = handed::opened(0);
-    let added = ledger::add(state, Kind::Consumer as u8, &value, &mut places);
+    let added = ledger::add(state, Kind::Consumer.tag(), &value, &mut places);
     let refusal = refusals::number_told(added);
     let index = refusals::index_told(added);
     let answer = format_args!("refusal {refusal} index {index}");

@@ -11,7 +11,7 @@ fn line(rt: &impl Print, asked: &str, share: u16, outside: u32, inside: u32, due
         rt,
         asked,
         handed::opened(1),
-        Kind::MixedFiring as u8,
+        Kind::MixedFiring.tag(),
         &value,
         due,
     );

@@ -4,6 +4,7 @@ use mathlib.Core.Bool.{Bool, true, false}
 use mathlib.Core.List.{List}
 use Prim.Native.Nat.{ℕ, ◌+◌, ◌≤◌, ◌<◌}
 use native.Mathlib.Decide.{ℕ_discrete}
+use native.Mathlib.Omega.{arith}
 use borrow.Author.Tests.{ltb-true, ltb-false, lt-ltb, le-ltb, ne_eqb}
 use lib.Dec.{ltb}
 use lib.ListN.{length}
@@ -54,6 +55,15 @@ module _ (due : Due) (left : List ℕ) where
       go (no n) t p = no_header n (field_refused n)
       go (yes e) true p = let h = ltb-true _ _ p in no_value e h (field_cut e h)
       go (yes e) false p = let h = ltb-false _ _ p in whole e h (field_good e h)
+
+  -- a value that is cut out lies in what is left
+  pub cut_within : (tag n : ℕ) → field_of due left ≡ Value tag n → 3 + n ≤ length left
+  cut_within tag n e = go answer
+    where
+      go : Answer → 3 + n ≤ length left
+      go (no_header m f) = let z : ◌≡◌ {A = ℕ} 0 1 = cc in absurd (omega arith)
+      go (no_value m h f) = let z : ◌≡◌ {A = ℕ} 0 1 = cc in absurd (omega arith)
+      go (whole m h f) = let k : size ≡ n = cc in omega arith
 
 -- for `using` at a function that cuts a field off
 pub ruleset answers = (header_long, field_refused, field_cut, field_good)

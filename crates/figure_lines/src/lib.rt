@@ -7,6 +7,8 @@ ghost use Rattle.arrayvec.specs.ArrayVec.{array_vec_len};
 ghost use Rattle.figure_lines.specs.FigureLines.{dashed, date, date_line, slot_lines, settled_lines, bid_line};
 ghost use Rattle.figure_lines.specs.FigureLines.{capacity_lines, figure_lines};
 
+pub mod placed;
+
 use arrayvec::ArrayVec;
 use figures::Figures;
 use heads::Head;

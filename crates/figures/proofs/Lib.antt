@@ -1,1 +1,2 @@
+pub mod FigureSteps
 pub mod SlotTotals

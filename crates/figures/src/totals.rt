@@ -27,5 +27,5 @@ pub fn put(places: &mut [i64], found: [i64; WINDOW_SLOTS])
 pub fn has_beyond(totals: [i64; WINDOW_SLOTS], most: u64) -> bool
     ensures { result ≡ any (λ total. ltb most (nat_abs total)) totals }
 {
-    totals.iter().any(|total| most < total.unsigned_abs())
+    totals.iter().any(|total| most < integers::size_of(*total))
 }

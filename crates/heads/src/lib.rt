@@ -156,7 +156,9 @@ pub fn count_refusal(count: u32) -> Result<(), Refusal>
 }
 
 // What opening refuses in the values of a head and a calendar, 2 to 8. It is also asked of a state's contents. Head
-// and marks stand side by side, as they do in the state, whose fields the definitions name.
+// and marks stand side by side, as they do in the state, whose fields the definitions name. Inlined, so that no copy of
+// them is made for the call.
+#[inline(always)]
 pub fn content_refusal(head: Head, marks: [u8; DAYS_BACK]) -> Result<(), Refusal>
     ensures { number_told result ≡ content_refusal head marks }
 {

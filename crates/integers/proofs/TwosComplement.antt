@@ -5,13 +5,18 @@ use mathlib.Core.List.{List}
 use Prim.Native.Nat.{ℕ, ◌+◌, ◌-◌, ◌^◌, ◌<◌, ◌≤◌}
 use native.Mathlib.Omega.{arith}
 use lib.Dec.{ltb}
-use lib.IntN.{ℤ, pos, negsuc}
+use lib.IntN.{ℤ, pos, negsuc, ◌-ℤ◌}
 use lib.ListN.{length, take, drop}
 use lib.Signed.{mag}
+use mir.Facts.{to_z-of_z, to_z_pos}
+use mir.Syntax.{w64}
+use mir.Val.{SFits, to_z}
 use borrow.Author.Tests.{lt-ltb, le-ltb}
 use Rattle.numbers.specs.Words.{bytes_of, word64, Bytes}
 use Rattle.numbers.proofs.Words.{word64_small, word64_back, word64_bytes}
 use Rattle.integers.specs.Integers.{most_word, twos_complement, signed_of, signed_word}
+use Rattle.integers.proofs.Differences.{⊖s}
+use Rattle.integers.proofs.Machine.{back}
 
 -- ---- words
 
@@ -40,3 +45,19 @@ module _ (bytes : List ℕ) (at : ℕ) where
   pub signed_word_bytes : Bytes bytes → at + 8 ≤ length bytes → bytes_of 8 (twos_complement (signed_word bytes at)) ≡ take 8 (drop at bytes)
   signed_word_bytes b h =
       ap (bytes_of 8) (complement_back (word64 bytes at) (word64_small bytes at b h)) ∙ word64_bytes bytes at b h
+
+-- ---- as the machine works a negative one out
+
+-- −1 less how far the word is below the highest
+less : (n : ℕ) → negsuc 0 -ℤ pos n ≡ negsuc n
+less n = simp ⊖s (omega arith)
+
+module _ (n : ℕ) (h : n < 2 ^ 63) where
+  less_is : negsuc 0 -ℤ to_z w64 n ≡ negsuc n
+  less_is = rw (to_z_pos w64 h) (less n)
+
+  pub less_fits : SFits w64 (negsuc 0 -ℤ to_z w64 n)
+  less_fits = rw less_is (record { sfits = h })
+
+  pub less_back : back w64 (negsuc 0 -ℤ to_z w64 n) ≡ negsuc n
+  less_back = to_z-of_z less_fits ∙ less_is

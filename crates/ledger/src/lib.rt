@@ -7,6 +7,7 @@ ghost use Rattle.ledger.specs.Told.{opened_told, added_told, closed_told};
 
 mod adding;
 pub mod states;
+pub mod told;
 
 use figures::Figures;
 use heads::Head;

@@ -37,8 +37,9 @@ pub fn slot_totals(state: State) -> [i64; WINDOW_SLOTS]
     state.totals
 }
 
-// A state that no opening or adding can have given.
+// A state that no opening or adding can have given. This and the refusal are inlined, so that no copy of the state is made for the call.
 #[tactic(auto, unfolding(crate::specs::States::is_unsound))]
+#[inline(always)]
 pub fn is_unsound(state: State) -> bool
     ensures { result ≡ is_unsound state }
 {
@@ -52,6 +53,7 @@ pub fn is_unsound(state: State) -> bool
 }
 
 // Refusal 9.
+#[inline(always)]
 pub fn unsound_refusal(state: State) -> Result<(), Refusal>
     ensures { number_told result ≡ first_told (unsound_row state) }
 {

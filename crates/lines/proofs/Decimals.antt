@@ -1,5 +1,6 @@
 -- A number is printed as `{}` prints it. Assumes nothing.
 use mathlib.Core.Path.{◌≡◌, sym, ap}
+use mathlib.Core.Bool.{cond}
 use mathlib.Core.List.{◌∷◌, ◌++◌}
 use Prim.Native.Nat.{ℕ, suc, ◌^◌, ◌≤◌, ◌<◌}
 use native.Mathlib.Omega.{arith}
@@ -28,3 +29,11 @@ with_zero m h = simp (lt-ltb m 10 h, decimal_is m (omega (arith, h)))
 
 pub without_zero : (m : ℕ) → 10 ≤ m → m < 2 ^ 64 → Fmt.decimal m ≡ two_digits m
 without_zero m h l = simp (le-ltb m 10 h, decimal_is m l)
+
+-- ---- two digits, in the words of the definitions alone
+
+pub two_digits_with_zero : (m : ℕ) → m < 10 → ascii "0" ++ decimal m ≡ two_digits m
+two_digits_with_zero m h = sym (ap (λ b. cond b (ascii "0" ++ decimal m) (decimal m)) (lt-ltb m 10 h))
+
+pub two_digits_without_zero : (m : ℕ) → 10 ≤ m → decimal m ≡ two_digits m
+two_digits_without_zero m h = sym (ap (λ b. cond b (ascii "0" ++ decimal m) (decimal m)) (le-ltb m 10 h))

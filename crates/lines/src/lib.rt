@@ -7,6 +7,8 @@ ghost use Rattle.arrayvec.specs.ArrayVec.{array_vec_len};
 ghost use Rattle.lines.specs.Numerals.{most_digits, two_digits};
 ghost use Rattle.lines.specs.Line.{line_of};
 
+pub mod placed;
+
 use arrayvec::ArrayVec;
 use itoa::{Buffer, Integer};
 

@@ -21,6 +21,13 @@ module _ (tag : ℕ) where
   pub of_tag : (number : ℕ) → tag ≡ number → kind_of tag ≡ kind_of number
   of_tag number e = ap kind_of e
 
+  -- a tag of no kind of point
+  abbrev pub Other : Type 0
+  Other = (tag ≡ consumer_tag → ⊥) × (tag ≡ generator_tag → ⊥) × (tag ≡ mixed_firing_tag → ⊥)
+
+  pub is_unknown_lem : Other → kind_of tag ≡ unknown
+  is_unknown_lem n = simp (ne_eqb tag consumer_tag n.0, ne_eqb tag generator_tag n.1, ne_eqb tag mixed_firing_tag n.2)
+
 -- every kind of point has room for its number, and none is longer than a consumer
 pub known_length : (kind : Kind) → is_unknown kind ≡ false → number_length ≤ size_of kind
 known_length consumer e = omega arith
@@ -82,9 +89,12 @@ large_number_lem generator index = inl refl
 large_number_lem mixed_firing index = inl refl
 large_number_lem unknown index = inl refl
 
--- so it is above those of the other rows
+-- so it is above those of the other rows, and told with an index
 pub large_above : {number : ℕ} → Large number → 50 < number
 large_above = ⊎_elim (λ e. omega arith) (λ e. omega arith)
+
+pub large_of_reading : {number : ℕ} → Large number → is_of_reading number ≡ true
+large_of_reading = ⊎_elim (ap is_of_reading) (ap is_of_reading)
 
 -- ---- a point with allowed values
 

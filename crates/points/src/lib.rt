@@ -61,6 +61,13 @@ impl TryFrom<u8> for Kind {
 }
 
 impl Kind {
+    // Its tag, the other way than `try_from`.
+    pub fn tag(self) -> u8
+        ensures { result ≡ tag_of self }
+    {
+        self as u8
+    }
+
     // The length of a point's value.
     pub fn value_length(self) -> usize
         ensures { result ≡ size_of (kind_of (tag_of self)) }
@@ -139,6 +146,36 @@ impl Class {
     }
 }
 
+// The kind of a tag that asks for this length.
+fn kind_of_length(tag: u8, length: usize) -> Result<Kind, Refusal>
+    ensures told { number_told result ≡ first_told (form_rows tag length) }
+    ensures given { IfOk result (λ kind. (tag_of kind ≡ tag) × (length ≡ size_of (kind_of (tag_of kind)))) }
+{
+    let kind = Kind::try_from(tag)?;
+    if length != kind.value_length() {
+        return Err(Refusal::PointLength);
+    }
+    Ok(kind)
+}
+
+// A tag of no point, or a length that is not that of the tag.
+pub fn form_refusal(tag: u8, length: usize) -> Result<(), Refusal>
+    ensures { number_told result ≡ first_told (form_rows tag length) }
+{
+    kind_of_length(tag, length).map(|_| ())
+}
+
+// What is not allowed in a value that is as long as its tag asks; nothing where the tag is no point's, whose value is empty.
+pub fn value_refusal(tag: u8, value: &[u8]) -> Result<(), Refusal>
+    requires { length value.now ≡ size_of (kind_of tag) }
+    ensures { refusal_told result ≡ with_index (first_told (value_rows tag value.now)) tag value.now }
+{
+    match Point::new(tag, value) {
+        Ok(point) => point.value_refusal(),
+        Err(_) => Ok(()),
+    }
+}
+
 // The point number at the front of a value: the paper's term, also for callers without a point.
 pub fn number_of(value: &[u8]) -> [u8; NUMBER_LENGTH]
     requires { number_length ≤ length value.now }
@@ -161,10 +198,7 @@ impl<'a> Point<'a> {
         ensures told { number_told result ≡ first_told (form_rows tag (length value.now)) }
         ensures given { IfOk result (λ point. (tag_of point.kind ≡ tag) × (point.value.now ≡ value.now)) }
     {
-        let kind = Kind::try_from(tag)?;
-        if value.len() != kind.value_length() {
-            return Err(Refusal::PointLength);
-        }
+        let kind = kind_of_length(tag, value.len())?;
         Ok(Point { kind, value })
     }
 

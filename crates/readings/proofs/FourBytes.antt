@@ -1,12 +1,12 @@
 -- Readings as arrays of four bytes: laid over each other, they show whether they are small; the first too large one. Assumes nothing.
-use mathlib.Core.Bool.{Bool, true, false, cond, not}
+use mathlib.Core.Bool.{Bool, true, false, cond, not, ◌&&◌, false≢true}
 use mathlib.Core.List.{List, [], ◌∷◌}
 use mathlib.Core.Path.{◌≡◌, refl, ap}
 use Prim.Native.Nat.{ℕ, zero, suc, ◌+◌, ◌%◌, ◌<◌, ◌≤◌}
 use native.Mathlib.Omega.{arith}
-use borrow.Author.Tests.{le-ltb}
+use borrow.Author.Tests.{le-ltb, leb-true}
 use lib.Bits.{bit_or, or_add_and, and_le_r, or_comm, or_mod}
-use lib.Dec.{ltb}
+use lib.Dec.{ltb, leb}
 use lib.ListN.{length, get_or, take, drop}
 use lib.Seq.{get_or-take, get_or-drop}
 use mir.Syntax.{w32}
@@ -73,4 +73,28 @@ none_of_small (suc n) readings bytes small =
     let high : get_or (take 4 readings) 0 0 ≡ get_or readings 0 0 = get_or-take 4 readings 0 0 (omega arith) in
     let low : word32 readings 0 ≤ most_reading = omega (arith, small 0 [] (omega arith), bytes 0, bytes 1, bytes 2, bytes 3) in
     let later = none_of_small n (drop 4 readings) (λ i. rw get_or-drop (bytes (4 + i))) (λ k d h. small (suc k) d (omega arith)) in
+    rw (le-ltb _ _ low) (ap suc later)
+
+and-true : (a b : Bool) → a && b ≡ true → (a ≡ true) × (b ≡ true)
+and-true true b e = (refl, e)
+and-true false b e = absurd (false≢true e)
+
+-- readings each of which is within the limit
+abbrev pub Within : List ℕ → Type 0
+Within reading = word32 reading 0 ≤ most_reading
+
+pub each_within : (readings : List (List ℕ)) (all : Bool) → fold (λ within reading. within && leb (word32 reading 0) most_reading) all readings ≡ true
+    → (all ≡ true) × All Within readings
+each_within [] all h = (h, λ k d l. absurd (omega arith))
+each_within (reading ∷ readings) all h =
+    let later = each_within readings (all && leb (word32 reading 0) most_reading) h in
+    let both = and-true all (leb (word32 reading 0) most_reading) later.0 in
+    (both.0, All-cons Within reading readings (leb-true _ _ both.1) later.1)
+
+pub none_of_within : (n : ℕ) (readings : List ℕ) → All Within (first_chunks 4 n readings) → first_large readings n ≡ n
+unfolding first_large
+none_of_within zero readings within = refl
+none_of_within (suc n) readings within =
+    let low : word32 readings 0 ≤ most_reading = rw first_word at (within 0 [] (omega arith)) in
+    let later = none_of_within n (drop 4 readings) (λ k d h. within (suc k) d (omega arith)) in
     rw (le-ltb _ _ low) (ap suc later)

@@ -1,12 +1,12 @@
 -- The first reading that is too large. Assumes nothing.
-use mathlib.Core.Path.{◌≡◌, refl}
+use mathlib.Core.Path.{◌≡◌, refl, sym, ap, ◌∙◌}
 use mathlib.Core.Bool.{Bool, true, false, cond}
-use mathlib.Core.List.{List}
-use Prim.Native.Nat.{ℕ, zero, suc, ◌+◌, ◌*◌, ◌<◌, ◌≤◌}
-use native.Mathlib.Nat.{zero-add, add-zero, add_assoc}
+use mathlib.Core.List.{List, [], ◌∷◌}
+use Prim.Native.Nat.{ℕ, zero, suc, ◌+◌, ◌-◌, ◌*◌, ◌<◌, ◌≤◌}
+use native.Mathlib.Nat.{zero-add, add-zero, add_assoc, suc-add}
 use native.Mathlib.Omega.{arith}
 use lib.Dec.{ltb}
-use lib.ListN.{drop}
+use lib.ListN.{length, take, drop}
 use lib.Seq.{drop-drop, get_or-drop}
 use borrow.Author.Tests.{lt-ltb, le-ltb, ltb-true, ltb-false}
 use Rattle.numbers.specs.Words.{word32}
@@ -45,6 +45,61 @@ module _ (readings : List ℕ) where
       go : (t : Bool) → ltb most_reading (word32 readings (i * reading_length)) ≡ t → (word32 readings (i * reading_length) ≤ most_reading) × (from (i + 1) n ≡ n)
       go true p = absurd (omega (arith, stop i n (ltb-true _ _ p)))
       go false p = let h = ltb-false _ _ p in (h, omega (arith, pass i n h))
+
+  -- k readings that fit are passed together
+  pub pass_all : (k i n : ℕ) → from i k ≡ k → from i (k + n) ≡ k + from (i + k) n
+  pass_all zero i n e = rw (zero-add, add-zero, zero-add)
+  pass_all (suc k) i n e =
+      let f = fits i k e in
+      let j : i + 1 + k ≡ i + suc k = omega arith in
+      rw (suc-add, suc-add) (pass i (k + n) f.0 ∙ ap suc (pass_all k (i + 1) n f.1 ∙ rw j))
+
+  -- and with those behind them
+  pub join : (k n i : ℕ) → from i k ≡ k → from (i + k) n ≡ n → from i (k + n) ≡ k + n
+  join k n i e f = pass_all k i n e ∙ ap (λ m. k + m) f
+
+  -- one that is found among the first k
+  pub found_within : (k i n : ℕ) → from i k < k → from i (k + n) ≡ from i k
+  found_within zero i n h = absurd (omega arith)
+  found_within (suc k) i n h = go (ltb most_reading (word32 readings (i * reading_length))) refl (found_within k (i + 1) n)
+    where
+      go : (t : Bool) → ltb most_reading (word32 readings (i * reading_length)) ≡ t → (from (i + 1) k < k → from (i + 1) (k + n) ≡ from (i + 1) k)
+          → from i (suc k + n) ≡ from i (suc k)
+      go true p r = let l = ltb-true _ _ p in rw suc-add (stop i (k + n) l ∙ sym (stop i k l))
+      go false p r =
+          let l = ltb-false _ _ p in
+          rw suc-add (pass i (k + n) l ∙ ap suc (r (omega (arith, pass i k l))) ∙ sym (pass i k l))
+
+  -- a loop's turn: what is left of n readings
+  module _ (i n : ℕ) where
+    pub left_pass : (k : ℕ) → i + k ≤ n → from i k ≡ k → i + from i (n - i) ≡ i + k + from (i + k) (n - (i + k))
+    left_pass k h e =
+        let m : n - i ≡ k + (n - (i + k)) = omega arith in
+        rw (m, pass_all k i (n - (i + k)) e) (omega arith)
+
+    pub left_stop : i < n → most_reading < word32 readings (i * reading_length) → i + from i (n - i) ≡ i
+    left_stop h l = let m : n - i ≡ suc (n - i - 1) = omega arith in rw (m, stop i (n - i - 1) l) (add-zero i)
+
+    -- a loop's turn that looks at k readings one by one
+    pub left_none_in : (k found : ℕ) → found ≡ i + from i (i + k - i) → i + k ≤ found → from i k ≡ k
+    left_none_in k found e h =
+        let m : i + k - i ≡ k = omega arith in
+        omega (arith, first_bound (drop (i * reading_length) readings) k, rw m at e)
+
+    pub left_found_in : (k found : ℕ) → found ≡ i + from i (i + k - i) → found < i + k → i + k ≤ n → i + from i (n - i) ≡ found
+    left_found_in k found e h l =
+        let m : i + k - i ≡ k = omega arith in
+        let f : found ≡ i + from i k = rw m at e in
+        let t : n - i ≡ k + (n - (i + k)) = omega arith in
+        rw (t, found_within k i (n - (i + k)) (omega arith)) (omega arith)
+
+    pub left_none : n ≤ i → i + from i (n - i) ≡ i
+    unfolding first_large
+    left_none h = let m : n - i ≡ 0 = omega arith in rw m (add-zero i)
+
+  pub one_fits : (i : ℕ) → word32 readings (i * reading_length) ≤ most_reading → from i 1 ≡ 1
+  unfolding first_large
+  one_fits i h = pass i 0 h
 
   in_limit : (n i j : ℕ) → from i n ≡ n → j < n → word32 readings ((i + j) * reading_length) ≤ most_reading
   in_limit zero i j e h = absurd (omega arith)
@@ -89,3 +144,19 @@ module _ (readings : List ℕ) where
 
   pub first_is_first : (n i : ℕ) → i < first_large readings n → word32 readings (i * reading_length) ≤ most_reading
   first_is_first n i h = rw zero-add at (small_before n 0 i h)
+
+-- ---- the first n readings are looked at, and what stands behind them is not
+
+part : (n : ℕ) (readings : List ℕ) → n * reading_length ≤ length readings → first_large (take (n * reading_length) readings) n ≡ first_large readings n
+unfolding first_large
+part zero readings h = refl
+part (suc n) [] h = absurd (omega arith)
+part (suc n) (a ∷ []) h = absurd (omega arith)
+part (suc n) (a ∷ b ∷ []) h = absurd (omega arith)
+part (suc n) (a ∷ b ∷ c ∷ []) h = absurd (omega arith)
+part (suc n) (a ∷ b ∷ c ∷ d ∷ readings) h =
+    let e : suc n * reading_length ≡ suc (suc (suc (suc (n * reading_length)))) = omega arith in
+    rw (e, part n readings (omega arith))
+
+pub large_of_part : (r : List ℕ) (n : ℕ) → n * reading_length ≤ length r → first_large (take (n * reading_length) r) n ≡ first_large r n
+large_of_part r n h = part n r h

@@ -1,8 +1,8 @@
 -- Sums of readings: of six that follow each other, of some days, and how large they are. Assumes nothing.
 use mathlib.Core.Path.{◌≡◌, refl, ap, ◌∙◌}
-use mathlib.Core.List.{List, [], ◌∷◌, map}
+use mathlib.Core.List.{List, [], ◌∷◌, ◌++◌, map, map-id}
 use Prim.Native.Nat.{ℕ, zero, suc, ◌+◌, ◌*◌, ◌<◌, ◌≤◌}
-use native.Mathlib.Nat.{add-zero, add-suc, suc-add, suc-mul, mul-suc}
+use native.Mathlib.Nat.{zero-add, add-zero, add-suc, suc-add, add_assoc, suc-mul, mul-suc}
 use native.Mathlib.Numerals.{add-one}
 use native.Mathlib.Omega.{arith}
 use lib.ListN.{length, get_or, drop, drop_of_length-le}
@@ -11,8 +11,13 @@ use Rattle.std.specs.List.{range_with_len}
 use Rattle.std.specs.List as list
 use Rattle.numbers.specs.Lists.{run, sum}
 use Rattle.numbers.proofs.Chains.{sum_is, map_is}
+use Rattle.numbers.proofs.Filling.{sum_more}
 
 module _ (f : ℕ → ℕ) where
+  pub six : (i : ℕ) → sum (run f i 6) ≡ f i + f (i + 1) + f (i + 2) + f (i + 3) + f (i + 4) + f (i + 5)
+  unfolding run sum
+  six i = sum_more f i 5 ∙ rw (sum_more f i 4, sum_more f i 3, sum_more f i 2, sum_more f i 1, sum_more f i 0, zero-add, add-zero)
+
   -- the same values, counted from another number on
   pub run_shift : (c i n : ℕ) → run (λ k. f (c + k)) i n ≡ run f (c + i) n
   unfolding run
@@ -36,6 +41,12 @@ module _ (f : ℕ → ℕ) where
   sum_within b i (suc n) h =
       let rest = sum_within b (suc i) n (λ j l. rw (suc-add, ← add-suc) (h (suc j) (omega arith))) in
       rw suc-mul (omega (arith, rw add-zero at (h 0 (omega arith))))
+
+  -- one day more
+  pub sum_days : (xs : List ℕ) (d : ℕ) → sum (map f (xs ++ d ∷ [])) ≡ sum (map f xs) + f d
+  unfolding sum
+  sum_days [] d = rw (add-zero, zero-add)
+  sum_days (x ∷ xs) d = rw (sum_days xs d, add_assoc)
 
   -- the days from a place on
   pub sum_drop : (days : List ℕ) (i : ℕ) → i < length days → sum (map f (drop i days)) ≡ f (get_or days i 0) + sum (map f (drop (i + 1) days))
@@ -73,3 +84,11 @@ module _ (f g : ℕ → ℕ) where
   unfolding sum
   days_same [] h = refl
   days_same (d ∷ days) h = rw (h 0 (omega arith), days_same days (λ i l. h (suc i) (omega arith)))
+
+-- six numbers, place by place
+pub six_places : (xs : List ℕ) → length xs ≡ 6
+    → sum xs ≡ get_or xs 0 0 + get_or xs 1 0 + get_or xs 2 0 + get_or xs 3 0 + get_or xs 4 0 + get_or xs 5 0
+six_places xs h =
+    let d = sum_drop (λ x. x) xs in
+    let last = sum_drop_end (λ x. x) xs 6 (omega arith) in
+    omega (arith, ap sum (map-id xs), d 0 (omega arith), d 1 (omega arith), d 2 (omega arith), d 3 (omega arith), d 4 (omega arith), d 5 (omega arith))

@@ -1,5 +1,5 @@
 -- A consumer's readings (document 01, 'The test book' and 'Days'): 1,488 of four bytes, the test day's 48, then days 1 to 30 back.
-use Rattle.std.specs.Prelude.{◌≡◌, cond, List, map, ℕ, zero, suc, ◌+◌, ◌*◌, ◌-◌, ◌/◌, ◌<◌, ◌≤◌, ltb, length, drop, get_or, Option, Some, None}
+use Rattle.std.specs.Prelude.{◌≡◌, cond, List, map, ℕ, zero, suc, ◌+◌, ◌*◌, ◌-◌, ◌/◌, ◌≤◌, ltb, length, drop, get_or, Option, Some, None}
 use Rattle.numbers.specs.Lists.{run, sum}
 use Rattle.numbers.specs.Slots.{slots_of_day, days_back, window_slots}
 use Rattle.numbers.specs.Words.{word32}

@@ -3,7 +3,8 @@
 
 ghost use Rattle.std.specs.Prelude.{◌≡◌, ◌<◌, ◌≤◌, ◌+◌, ◌-◌, ◌*◌, ◌%◌, length, IsTrue, All, slice_index};
 ghost use Rattle.numbers.specs.Slots.{days_back, window_slots};
-ghost use Rattle.readings.specs.Readings.{earlier_by, large_place, reading};
+ghost use Rattle.numbers.specs.Words.{word32};
+ghost use Rattle.readings.specs.Readings.{earlier_by, large_place, most_reading, reading};
 ghost use Rattle.readings.specs.Readings.{window_sum, window_sums, slot_sum, slot_sums, earlier_use, Back, HasWindow};
 
 use numbers::{DAYS_BACK, DAYS_USED, SLOTS_OF_DAY, WINDOW_SLOTS, word32_at};
@@ -14,6 +15,9 @@ const MOST_READING: u32 = 1_000_000_000;
 
 // The bytes of a reading.
 pub const READING_LENGTH: usize = 4;
+
+// Readings that are looked at together.
+const PART: usize = 48;
 
 // The earlier slots begin so many slots before the window.
 pub const EARLIER_BY: usize = 10;
@@ -43,17 +47,55 @@ fn are_small(readings: &[[u8; READING_LENGTH]]) -> bool
     all % 256 < 32
 }
 
-// The first reading that is too large, counted from 0.
-pub fn first_large(readings: &[u8]) -> Option<usize>
+// Whether each reading is within the limit. No place is told, so that the compiler has no way out of the loop to make.
+fn are_within(readings: &[[u8; READING_LENGTH]]) -> bool
+    ensures { IsTrue result → All (λ reading. word32 reading 0 ≤ most_reading) readings.now }
+{
+    readings.iter().fold(true, |within, reading| {
+        within & (word32_at(reading, 0) <= MOST_READING)
+    })
+}
+
+// The first of some readings that is too large, counted from 0. They are looked at one by one only where not all are small.
+fn large_among(readings: &[u8]) -> Option<usize>
     ensures { result ≡ large_place readings.now }
 {
     let (readings, _) = readings.as_chunks::<READING_LENGTH>();
     if are_small(readings) {
         return None;
     }
+    if are_within(readings) {
+        return None;
+    }
     readings
         .iter()
         .position(|reading| MOST_READING < word32_at(reading, 0))
+}
+
+// The same part by part, so that of many readings those beside one that is not small are looked at one by one, and no others.
+fn large_by_parts(readings: &[u8]) -> Option<usize>
+    ensures { result ≡ large_place readings.now }
+{
+    let mut passed: usize = 0;
+    let mut left = readings;
+    while let Some((part, behind)) = left.split_at_checked(PART * READING_LENGTH) {
+        if let Some(place) = large_among(part) {
+            return Some(passed + place);
+        }
+        passed += PART;
+        left = behind;
+    }
+    large_among(left).map(|place| passed + place)
+}
+
+// The first reading that is too large, counted from 0. Of a meter's readings all are small as a rule.
+pub fn first_large(readings: &[u8]) -> Option<usize>
+    ensures { result ≡ large_place readings.now }
+{
+    if are_small(readings.as_chunks::<READING_LENGTH>().0) {
+        return None;
+    }
+    large_by_parts(readings)
 }
 
 impl<'a> Window<'a> {

@@ -1,19 +1,22 @@
 -- What writing a point tells, and what it leaves in the lent bytes. Assumes nothing.
 use mathlib.Core.Path.{◌≡◌, refl, ap, ◌∙◌}
 use mathlib.Core.List.{List}
-use Prim.Native.Nat.{ℕ, ◌+◌, ◌<◌}
-use borrow.Author.Tests.{lt-ltb, ne_eqb}
+use Prim.Native.Nat.{ℕ, ◌+◌, ◌≤◌, ◌<◌}
+use native.Mathlib.Omega.{arith}
+use borrow.Author.Tests.{eqb-true, not-false, lt-ltb, le-ltb, ne_eqb}
 use lib.ListN.{length}
 use Rattle.std.specs.Prelude.{Err}
 use Rattle.numbers.specs.Refusals.{first_told}
-use Rattle.numbers.proofs.Refusals.{told, passed}
-use Rattle.points.specs.Points.{with_index}
+use Rattle.numbers.specs.Placing.{at_front}
+use Rattle.numbers.proofs.Refusals.{untold, told, passed}
+use Rattle.points.specs.Points.{kind_of, size_of, with_index}
 use Rattle.points.specs.Points.{Refusal}
 use Rattle.points.specs.Told.{refusal_told}
 use Rattle.refusals.specs.declared.Refusal.{Refusal as Cause}
 use Rattle.refusals.proofs.Refused.{refused}
+use Rattle.fields.specs.Fields.{written}
 use Rattle.writing.specs.Writing.{room_row, value_writing_tests, value_writing_refusal, point_writing_refusal, point_writing_answer, point_writing_out}
-use Rattle.points.proofs.PointKinds.{values_numbered}
+use Rattle.points.proofs.PointKinds.{kind_small, values_numbered}
 
 module _ (tag : ℕ) (value : List ℕ) where
   -- ---- the answer and the lent bytes, in each case
@@ -36,6 +39,12 @@ module _ (tag : ℕ) (value : List ℕ) where
     answer_refused refusal e = let w = point_refused λ z. refused refusal (ap (λ r. r.number) e ∙ z) in (e ∙ w.0, w.1)
 
     module _ (e : value_writing_refusal tag value ≡ 0) where
+      pub told_small : length value < 65536
+      unfolding value_writing_refusal
+      told_small =
+          let size : length value ≡ size_of (kind_of tag) = eqb-true _ _ (not-false _ (untold (value_writing_tests tag value) (values_numbered tag value) e 12)) in
+          omega (arith, kind_small (kind_of tag))
+
       room_next : point_writing_refusal tag value (length out) ≡ first_told (room_row (length out) (3 + length value))
       unfolding point_writing_refusal value_writing_refusal
       room_next = passed (value_writing_tests tag value) (room_row (length out) (3 + length value)) (values_numbered tag value) e
@@ -43,3 +52,7 @@ module _ (tag : ℕ) (value : List ℕ) where
       pub point_room : length out < 3 + length value → PointAnswer (record { number = 40; index = 0 }) out
       unfolding point_writing_out
       point_room h = rw (room_next, lt-ltb (length out) (3 + length value) h) (refl, refl)
+
+      pub point_written : 3 + length value ≤ length out → PointAnswer (record { number = 0; index = 0 }) (at_front (written tag value) out)
+      unfolding point_writing_out
+      point_written h = rw (room_next, le-ltb (length out) (3 + length value) h) (refl, refl)

@@ -6,7 +6,7 @@ pub loop-preserved : goal.loop-preserved
 loop-preserved c =
     let l = c.loop in
     let e = c.in-Ok.ensures in
-    let added = c.in_ok-state.ensures.answer in
+    let added = c.in-Ok-add.ensures.answer in
     let accepted = sym (ap (λ y. y.refusal) added) in
     let w = was_added (c.args.opened.head.count - l.counter) l.state l.left.now (omega arith) c.in-Ok.point.tag c.in-Ok.point.value.now e.answer e.value accepted in
     let n : c.args.opened.head.count - l.counter - 1 ≡ c.args.opened.head.count - (l.counter + 1) = omega arith in
